@@ -1,0 +1,95 @@
+// What is refused, and why (source: error.rs).
+//
+// Every refusal of the library is a LyapunovError. specs/Refusal.antt gives each variant the number and the place that
+// document 01 gives it, and every contract that speaks of a refusal goes through that definition: start reading there.
+ghost use mathlib.Core.Path.{_≡_};
+ghost use Rattle.error.specs.Refusal as Spec;
+
+// A variant holds its place where document 01 gives it one. The source's names are kept where it has the variant.
+pub enum LyapunovError {
+    ZeroTopK,
+    InvalidStepSize,
+    ZeroStepsPerWindow,
+    ZeroWindows,
+    CountAboveLimit(usize),
+    InvalidInitialTime,
+    ZeroDimension,
+    DimensionAboveLimit,
+    MatrixMismatch,
+    StateMismatch,
+    NonFiniteInitialState(usize),
+    InvalidExponentCount,
+    OutputTooShort(usize),
+    DegenerateTangent(usize),
+    InvalidWindowDuration,
+    NonFiniteState(usize),
+    NonFiniteTangent(usize),
+    InvalidTime,
+    TangentMismatch,
+    NoExponents,
+    TooManyExponents,
+    NonFiniteExponent(usize),
+    IncompleteBytes,
+    LogarithmDomain,
+}
+
+// What a call answers that may be refused and has no value to give.
+pub enum Outcome {
+    Accepted,
+    Refused(LyapunovError),
+}
+
+// A refusal's number and its place. `place` is document 01's own term: the index, direction or output that the refusal
+// points at, and 0 where none is stated.
+pub struct Refusal {
+    pub number: u64,
+    pub place: usize,
+}
+
+// Document 01's number of an error.
+pub fn number(error: LyapunovError) -> u64
+    ensures { λ r. ⌜ r ≡ Spec.refusal error .number ⌝ }
+{
+    match error {
+        LyapunovError::ZeroTopK => 1,
+        LyapunovError::InvalidStepSize => 2,
+        LyapunovError::ZeroStepsPerWindow => 3,
+        LyapunovError::ZeroWindows => 4,
+        LyapunovError::CountAboveLimit(_p) => 5,
+        LyapunovError::InvalidInitialTime => 6,
+        LyapunovError::ZeroDimension => 7,
+        LyapunovError::DimensionAboveLimit => 8,
+        LyapunovError::MatrixMismatch => 9,
+        LyapunovError::StateMismatch => 10,
+        LyapunovError::NonFiniteInitialState(_p) => 11,
+        LyapunovError::InvalidExponentCount => 12,
+        LyapunovError::OutputTooShort(_p) => 13,
+        LyapunovError::DegenerateTangent(_p) => 14,
+        LyapunovError::InvalidWindowDuration => 15,
+        LyapunovError::NonFiniteState(_p) => 16,
+        LyapunovError::NonFiniteTangent(_p) => 17,
+        LyapunovError::InvalidTime => 18,
+        LyapunovError::TangentMismatch => 19,
+        LyapunovError::NoExponents => 20,
+        LyapunovError::TooManyExponents => 21,
+        LyapunovError::NonFiniteExponent(_p) => 22,
+        LyapunovError::IncompleteBytes => 23,
+        LyapunovError::LogarithmDomain => 24,
+    }
+}
+
+// Its place.
+pub fn place(error: LyapunovError) -> usize
+    ensures { λ r. ⌜ r ≡ Spec.refusal error .place ⌝ }
+{
+    match error {
+        LyapunovError::CountAboveLimit(p) => p,
+        LyapunovError::NonFiniteInitialState(p) => p,
+        LyapunovError::OutputTooShort(p) => p,
+        LyapunovError::DegenerateTangent(p) => p,
+        LyapunovError::NonFiniteState(p) => p,
+        LyapunovError::NonFiniteTangent(p) => p,
+        LyapunovError::NonFiniteExponent(p) => p,
+        _ => 0,
+    }
+}

@@ -1,0 +1,11 @@
+-- Laws that several crates cite, one subject a file.
+pub mod Zero
+pub mod Finite
+pub mod Magnitude
+pub mod Units
+pub mod Pattern
+pub mod OneForm
+pub mod Ordinary
+pub mod Sets
+pub mod Fill
+pub mod Vector

@@ -1,0 +1,67 @@
+-- A value that is finite and above zero: its pattern is not 0 and below the infinity's.
+use mathlib.Core.Path.{_≡_, refl, sym, ap, _∙_, subst}
+use mathlib.Core.Bool.{true, false, not, true≢false}
+use Prim.Native.Nat.{ℕ, zero, suc, _+_, _-_, _*_, _/_, _^_, _≤_, _<_}
+use native.Mathlib.Nat.{le-of-eq, lt-of-lt-of-le, mul-div-cancel, div-one, zero-add}
+use native.Mathlib.Omega.{arith}
+use lib.IntN.{ℤ}
+use lib.Dec.{T}
+use lib.Ieee.{Float, nan, inf, fin, binary64, up, down, size, fits, isNan, eq, lt, ne, ofBits, toBits}
+use lib.Ieee.Fits.{down-pos, kept-lt}
+use lib.Ieee.Digits.{size-le}
+use Rattle.floats.specs.Arithmetic.{zero⁺}
+use Rattle.floats.proofs.Zero.{zero-is, zero-equal, minus-infinity-below, negative-below}
+use Rattle.floats.proofs.Finite.{infinity-is}
+use Rattle.floats.proofs.Units.{U, few-digits, under-end-of, some-of}
+
+-- x is finite and above zero
+pub data Ordinary : Float → Type 0 where
+  ordinary : (m : ℕ) (e : ℤ) → Ordinary (fin false (suc m) e)
+
+nan-test : ne nan nan ≡ true
+unfolding ne
+nan-test = refl
+
+inf-same : eq (inf false) (inf false) ≡ true
+unfolding eq
+inf-same = refl
+
+ordinary-at : (x : Float) → ne x x ≡ false → eq x zero⁺ ≡ false → lt x zero⁺ ≡ false → eq x (inf false) ≡ false → Ordinary x
+ordinary-at nan a b c d = absurd (true≢false (sym nan-test ∙ a))
+ordinary-at (inf true) a b c d = absurd (true≢false (sym minus-infinity-below ∙ c))
+ordinary-at (inf false) a b c d = absurd (true≢false (sym inf-same ∙ d))
+ordinary-at (fin true zero e) a b c d = absurd (true≢false (sym (zero-equal true e) ∙ b))
+ordinary-at (fin false zero e) a b c d = absurd (true≢false (sym (zero-equal false e) ∙ b))
+ordinary-at (fin true (suc m) e) a b c d = absurd (true≢false (sym (negative-below m e) ∙ c))
+ordinary-at (fin false (suc m) e) a b c d = ordinary m e
+
+pub ordinary-left : (x : Float) → ne x x ≡ false → eq x (ofBits binary64 0) ≡ false → lt x (ofBits binary64 0) ≡ false → eq x (ofBits binary64 0x7ff0_0000_0000_0000) ≡ false → Ordinary x
+ordinary-left x a b c d = ordinary-at x a (ap (eq x) (sym zero-is) ∙ b) (ap (lt x) (sym zero-is) ∙ c) (ap (eq x) (sym infinity-is) ∙ d)
+
+pub ordinary-no-nan : {x : Float} → Ordinary x → T (not (isNan x))
+unfolding isNan
+ordinary-no-nan (ordinary m e) = tt
+
+-- ---- its pattern
+pattern-at : (n : ℕ) → 0 < n → n < 2 ^ 2098 → (0 < 0 + (size n - 53) * 2 ^ 52 + n / 2 ^ (size n - 53)) × (0 + (size n - 53) * 2 ^ 52 + n / 2 ^ (size n - 53) < 0x7ff0_0000_0000_0000)
+pattern-at n some fine = (go (size n - 53) refl, hi (size n) (n / 2 ^ (size n - 53)) (kept-lt 53 n) (size-le n 2098 fine))
+  where
+    hi : (z q : ℕ) → q < 2 ^ 53 → z ≤ 2098 → 0 + (z - 53) * 2 ^ 52 + q < 0x7ff0_0000_0000_0000
+    hi z q l h = omega arith
+
+    go : (k : ℕ) → size n - 53 ≡ k → 0 < 0 + k * 2 ^ 52 + n / 2 ^ k
+    go zero e = lt-of-lt-of-le some (le-of-eq (sym (zero-add (n / 1) ∙ div-one n)))
+    go (suc k) e = omega arith
+
+pattern-of : (m : ℕ) (e : ℤ) → toBits binary64 (fin false m e) ≡ 0 + (size (m * up e * U / down e) - 53) * 2 ^ 52 + m * up e * U / down e / 2 ^ (size (m * up e * U / down e) - 53)
+unfolding toBits
+pattern-of m e = refl
+
+pub ordinary-pattern : {x : Float} → T (fits binary64 x) → Ordinary x → (0 < toBits binary64 x) × (toBits binary64 x < 0x7ff0_0000_0000_0000)
+ordinary-pattern f (ordinary m e) =
+    let d = few-digits (fin false (suc m) e) f tt in
+    let X = d .0 * 2 ^ d .1 in
+    let n : suc m * up e * U / down e ≡ X = ap (λ (z : ℕ). z / down e) (d .3 .1) ∙ mul-div-cancel X (down-pos e) in
+    subst (λ (b : ℕ). (0 < b) × (b < 0x7ff0_0000_0000_0000)) (sym (pattern-of (suc m) e))
+    (subst (λ (z : ℕ). (0 < 0 + (size z - 53) * 2 ^ 52 + z / 2 ^ (size z - 53)) × (0 + (size z - 53) * 2 ^ 52 + z / 2 ^ (size z - 53) < 0x7ff0_0000_0000_0000)) (sym n)
+    (pattern-at X (some-of m e X (d .3 .1)) (under-end-of m e X f (d .3 .1))))

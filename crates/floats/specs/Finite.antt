@@ -1,0 +1,18 @@
+-- The first entry that is not finite. Definitions only.
+use Prim.Native.Nat.{ℕ, zero, suc}
+use mathlib.Core.Bool.{cond}
+use mathlib.Core.List.{List, [], _∷_}
+use mathlib.Core.Option.{Option, none, some, Option·map}
+use lib.Ieee.{Float}
+use lib.Ieee.Scale.{finite}
+use Rattle.floats.specs.declared.Position.{Position}
+use Rattle.floats.specs.declared.Position.the-variants.{At, Nowhere}
+
+unfoldable pub first-not-finite : List Float → Option ℕ
+first-not-finite [] = none
+first-not-finite (x ∷ xs) = cond (finite x) (Option·map suc (first-not-finite xs)) (some zero)
+
+-- the index that a position stands for
+abbrev pub index : Position → Option ℕ
+index Nowhere = none
+index (At i) = some i

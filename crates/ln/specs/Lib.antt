@@ -1,0 +1,3 @@
+-- What the contracts cite, and document 01's marked examples.
+pub mod Logarithm
+pub mod Marked

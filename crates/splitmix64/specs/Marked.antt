@@ -1,0 +1,16 @@
+-- Document 01's marked examples of the draw, for n = 0, 2 ^ 52 and 2 ^ 53 - 1.
+use mathlib.Core.Path.{_≡_, refl}
+use mathlib.Core.Bool.{true, false}
+use Prim.Native.Nat.{_-_, _*_, _^_}
+use lib.IntN.{pos, negsuc}
+use lib.Ieee.{fin, round}
+use Rattle.splitmix64.specs.Mix.{mix, next-state, unit}
+
+pub marked : (unit 0 ≡ fin true 1 (pos 0)) × (unit (2 ^ 52 * 2 ^ 11) ≡ fin false 0 (pos 0)) × (unit ((2 ^ 53 - 1) * 2 ^ 11) ≡ fin false (2 ^ 52 - 1) (negsuc 51))
+unfolding unit round
+marked = (refl, refl, refl)
+
+-- the first published output for the state 1234567
+pub published : mix (next-state 1234567) ≡ 6457827717110365317
+unfolding mix
+published = refl

@@ -1,0 +1,12 @@
+-- Document 01's marked examples of the root, as one table.
+use mathlib.Core.Path.{_≡_, refl}
+use mathlib.Core.Bool.{false}
+use lib.IntN.{pos, negsuc}
+use lib.Ieee.{fin, binary64, toBits}
+use Rattle.sqrt.specs.SquareRoot.{root}
+
+pub marked : (root (fin false 1 (pos 2)) ≡ fin false 1 (pos 1))
+    × (toBits binary64 (root (fin false 1 (pos 1))) ≡ 0x3ff6a09e667f3bcd)
+    × (root (fin false 1 (negsuc 1073)) ≡ fin false 1 (negsuc 536))
+unfolding root toBits
+marked = (refl, refl, refl)
