@@ -1,8 +1,10 @@
 -- A list of tests: what is refused at the first that fails, and what is known once all are passed.
-use Prim.Native.Nat.{ℕ}
+use Prim.Native.Nat.{ℕ, zero, suc}
 use native.Mathlib.Omega.{arith}
 use mathlib.Core.Path.{_≡_, refl}
-use mathlib.Core.Bool.{Bool, true, false, cond}
+use mathlib.Core.Bool.{Bool, true, false, cond, _&&_}
+use borrow.Author.Tests.{lt-ltb}
+use lib.Dec.{ltb}
 use mathlib.Core.List.{List, [], _∷_, _++_}
 use mathlib.Core.Option.{Option, none, some}
 use Rattle.error.specs.Tests.{Test, first-failing, _else_}
@@ -51,3 +53,17 @@ module _ {A : Type 0} (a b : Option A) where
   pub else-go : {r : Option A} → none ≡ a → r ≡ b → r ≡ (a else b)
   unfolding _else_
   else-go e f = rw (← e) f
+
+-- ---- what the code's tests say
+
+pub positive-passes : (k : ℕ) → (k ≡ 0 → ⊥) → ltb 0 k ≡ true
+positive-passes zero h = absurd (h refl)
+positive-passes (suc k) h = lt-ltb 0 (suc k) (omega arith)
+
+pub zero-fails : (k : ℕ) → k ≡ 0 → ltb 0 k ≡ false
+zero-fails k e = rw e
+
+-- the second of two tests decides where the first passes
+pub second-decides : (a b : Bool) → a ≡ true → b ≡ (a && b)
+second-decides true b e = refl
+second-decides false b e = let z : _≡_ {A = ℕ} 0 1 = cc in absurd (omega arith)

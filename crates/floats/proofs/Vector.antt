@@ -4,7 +4,7 @@ use native.Mathlib.Nat.{suc-mul, zero-mul, add-comm, mul-le-mul-right, not-suc-l
 use native.Mathlib.Numerals.{add-one}
 use native.Mathlib.Omega.{arith}
 use mathlib.Core.Path.{_≡_, refl, sym, ap, ap₂, _∙_}
-use mathlib.Core.List.{List, [], _∷_, _++_, map, append-assoc}
+use mathlib.Core.List.{List, [], _∷_, _++_, map, append-assoc, append-nil}
 use lib.ListN.{length, take, drop, getD, length-drop, length-append, drop-of-length-le}
 use lib.Seq.{sets, take-at, drop-at, take-add, take-nil, take-append-add, length-take-le, drop-cons, drop-drop}
 use lib.Ieee.{Float, nan}
@@ -92,3 +92,7 @@ pub chunks-concat : (d : ℕ) (vs : List (List Float)) (l : List Float) → Size
 unfolding chunks concat
 chunks-concat d [] l h = refl
 chunks-concat d (v ∷ vs) l h = rw (append-assoc v (concat vs) l, take-at v (concat vs ++ l) d (h .0), drop-at v (concat vs ++ l) d (h .0), chunks-concat d vs l (h .1))
+
+-- n vectors of d entries, put one after the other and taken apart again
+pub chunks-back : (d n : ℕ) (vs : List (List Float)) → Sized d vs → length vs ≡ n → chunks d n (concat vs) ≡ vs
+chunks-back d n vs h e = rw (← e, ← append-nil (concat vs)) (chunks-concat d vs [] h)

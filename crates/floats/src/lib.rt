@@ -6,7 +6,7 @@
 ghost use mathlib.Core.Path.{_≡_};
 ghost use lib.Ieee.{binary64, toBits};
 ghost use lib.Ieee.Scale.{finite};
-ghost use Rattle.floats.specs.Finite.{first-not-finite, index};
+ghost use Rattle.floats.specs.Finite.{positive, first-not-finite, index};
 ghost use Rattle.floats.specs.Magnitude.{magnitude};
 ghost use Rattle.floats.specs.TotalOrder.{rank};
 
@@ -21,6 +21,13 @@ pub fn is_finite(x: f64) -> bool
 {
     let top = f64::from_bits(0x7ff0_0000_0000_0000);
     if x < top { -top < x } else { false }
+}
+
+// Finite and above 0.
+pub fn is_positive(x: f64) -> bool
+    ensures { λ r. ⌜ r ≡ positive x ⌝ }
+{
+    if is_finite(x) { 0.0 < x } else { false }
 }
 
 // |x|.

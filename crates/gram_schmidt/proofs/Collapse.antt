@@ -1,0 +1,93 @@
+-- What the two tests of a length tell, and what is holds of a direction by them.
+use Prim.Native.Nat.{ℕ, _+_, _*_, _≤_, _<_}
+use native.Mathlib.Nat.{eq-or-lt-of-le}
+use native.Mathlib.Omega.{arith}
+use mathlib.Core.Path.{_≡_, refl, sym}
+use mathlib.Core.Logic.{_⊎_, inl, inr}
+use mathlib.Core.Bool.{Bool, true, false, not, _||_}
+use mathlib.Core.List.{List, map}
+use borrow.Author.Tests.{ltb-false, lt-ltb, eq-eqb}
+use lib.Dec.{ltb}
+use lib.IntN.{negsuc}
+use lib.Ieee.{Float, nan, inf, fin, up, down, below, level, lt, eq, le}
+use Rattle.sqrt.specs.SquareRoot.{root}
+use Rattle.ln.specs.Logarithm.{log, normal, logarithm, answer}
+use Rattle.gram_schmidt.specs.Orthonormalise.{collapsed}
+use Rattle.gram_schmidt.specs.GramSchmidt.{squared-length, normalised, divided}
+use Rattle.gram_schmidt.specs.declared.Normalised.the-variants.{By, Collapsed}
+use Rattle.floats.specs.Arithmetic.{_⊘_}
+use lib.Ieee.Scale.{finite}
+use mathlib.Core.Path.{ap, _∙_}
+use Rattle.error.specs.Refusal.{value, refused, refusal}
+use Rattle.error.specs.declared.LyapunovError.{LyapunovError}
+use Rattle.ln.specs.declared.Logarithm.{Logarithm}
+use Rattle.ln.specs.declared.Logarithm.the-variants.{Value, Refused}
+
+abbrev least : Float
+least = fin false 1 (negsuc 1021)
+
+or-true : (a : Bool) → (a || true) ≡ true
+or-true true = refl
+or-true false = refl
+
+or-left : (a b : Bool) → (a || b) ≡ false → a ≡ false
+or-left true b e = e
+or-left false b e = refl
+
+pub low : (r : Float) → le r least ≡ true → collapsed r ≡ true
+unfolding collapsed
+low r h = rw h (or-true (not (finite r)))
+
+pub high : (r : Float) → lt r (inf false) ≡ false → collapsed r ≡ true
+unfolding collapsed lt
+high nan h = refl
+high (inf s) h = refl
+high (fin s m e) h = let z : _≡_ {A = ℕ} 0 1 = cc in absurd (omega arith)
+
+pub held : (r : Float) → le r least ≡ false → lt r (inf false) ≡ true → collapsed r ≡ false
+unfolding collapsed lt eq le
+held nan h g = sym g
+held (inf true) h g = h
+held (inf false) h g = sym g
+held (fin s m e) h g = rw h
+
+-- of two numbers with signs, one is at most the other
+total : (s : Bool) (a b : ℕ) → (below s a false b || level s a false b) ≡ false → (below false b s a || level false b s a) ≡ true
+total false a b h = go (eq-or-lt-of-le (ltb-false a b (or-left (ltb a b) _ h)))
+  where
+    go : (b ≡ a) ⊎ (b < a) → (below false b false a || level false b false a) ≡ true
+    go (inl e) = rw (eq-eqb b a e) (or-true (ltb b a))
+    go (inr l) = rw (lt-ltb b a l)
+total true a b h =
+    let z : a + b ≤ 0 = ltb-false 0 (a + b) (or-left (ltb 0 (a + b)) _ h) in
+    let x : a ≡ 0 = omega arith in
+    let y : b ≡ 0 = omega arith in
+    rw (x, y)
+
+pub normal-held : (r : Float) → le r least ≡ false → lt r (inf false) ≡ true → normal r ≡ true
+unfolding lt eq le
+normal-held nan h g = g
+normal-held (inf true) h g = sym h
+normal-held (inf false) h g = g
+normal-held (fin s m e) h g = rw (total s (m * up e * down (negsuc 1021)) (1 * up (negsuc 1021) * down e) h)
+
+-- ---- what is holds of a direction
+
+pub norm-collapsed : (xs : List Float) (q r : Float) → q ≡ squared-length xs → r ≡ root q → collapsed r ≡ true → (Collapsed ≡ normalised xs) × (xs ≡ divided xs)
+norm-collapsed xs q r e f h = let g : collapsed (root (squared-length xs)) ≡ true = rw (f, e) at h in (rw g, rw g)
+
+pub norm-divided : (xs : List Float) (q r l : Float) (ys : List Float) → q ≡ squared-length xs → r ≡ root q → collapsed r ≡ false → l ≡ log r
+    → ys ≡ map (λ x. x ⊘ r) xs → (By l q ≡ normalised xs) × (ys ≡ divided xs)
+norm-divided xs q r l ys e f h k m =
+    let g : collapsed (root (squared-length xs)) ≡ false = rw (f, e) at h in (rw (g, k, f, e), rw (g, m, f, e))
+
+-- ---- what the logarithm answers
+
+pub log-value : (r l : Float) (y : Logarithm) → normal r ≡ true → answer y ≡ logarithm r → y ≡ Value l → l ≡ log r
+log-value r l y h e f = let g : value l ≡ value (log r) = sym (ap answer f) ∙ e ∙ rw h in cc
+
+pub log-never : (r : Float) (y : Logarithm) (x : LyapunovError) → normal r ≡ true → answer y ≡ logarithm r → y ≡ Refused x → ⊥
+log-never r y x h e f =
+    let g : refused (refusal x) ≡ value (log r) = sym (ap answer f) ∙ e ∙ rw h in
+    let z : _≡_ {A = ℕ} 0 1 = cc in
+    omega arith

@@ -1,0 +1,6 @@
+-- Laws of the definitions of specs/, one subject a file.
+pub mod Loops
+pub mod Directions
+pub mod Finished
+pub mod Collapse
+pub mod Degenerate

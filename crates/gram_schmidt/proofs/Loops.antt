@@ -1,0 +1,95 @@
+-- What the loops go by: one more turn, and the end. What is holds to do is a function of the list as it is and of the index.
+use Prim.Native.Nat.{ℕ, suc, _+_, _-_, _*_, _≤_, _<_}
+use native.Mathlib.Nat.{suc-mul, zero-mul, sub-zero, add-zero, add-mul, add-sub-cancel-left}
+use native.Mathlib.Numerals.{add-one}
+use native.Mathlib.Omega.{arith}
+use mathlib.Core.Path.{_≡_, refl, sym, ap, _∙_}
+use mathlib.Core.List.{List, [], _∷_}
+use lib.ListN.{length, drop, getD, set}
+use lib.Seq.{sets, drop-set-lt, drop-drop}
+use lib.Ieee.{Float, nan, binary64, sub, mul}
+use Rattle.gram_schmidt.specs.Orthonormalise.{subtract-projection, orthogonalise}
+use Rattle.floats.specs.Arithmetic.{zero⁺}
+use Rattle.floats.specs.Vector.{dot-from, part, chunks}
+use Rattle.floats.proofs.Sets.{part-length, part-cons, part-set, part-sets, sets-over, sets-own}
+use Rattle.floats.proofs.Vector.{chunks-sets}
+
+-- ---- a direction subtract-projection a multiple of another one
+
+pub subtract-length : (p : Float) (v b : List Float) → length (subtract-projection p v b) ≡ length v
+unfolding subtract-projection
+subtract-length p [] b = refl
+subtract-length p (x ∷ v) [] = refl
+subtract-length p (x ∷ v) (y ∷ b) = ap suc (subtract-length p v b)
+
+abbrev pub subtracting : Float → ℕ → ℕ → ℕ → List Float → ℕ → List Float
+subtracting p b t d xs i = sets xs (t + i) (subtract-projection p (part (t + i) (d - i) xs) (part (b + i) (d - i) xs))
+
+pub subtract-next : (p : Float) (b t d : ℕ) (xs : List Float) (i : ℕ) → i < d → b + d ≤ t → t + d ≤ length xs
+    → subtracting p b t d xs i ≡ subtracting p b t d (set xs (t + i) (sub binary64 (getD xs (t + i) nan) (mul binary64 p (getD xs (b + i) nan)))) (i + 1)
+unfolding subtract-projection
+subtract-next p b t d xs i h g k =
+    let z = sub binary64 (getD xs (t + i) nan) (mul binary64 p (getD xs (b + i) nan)) in
+    let m = d - (i + 1) in
+    let e₁ : d - i ≡ suc m = omega arith in
+    let e₂ : t + (i + 1) ≡ suc (t + i) = omega arith in
+    let e₃ : b + (i + 1) ≡ suc (b + i) = omega arith in
+    rw (e₁, e₂, e₃, part-cons (t + i) m xs (omega arith), part-cons (b + i) m xs (omega arith), drop-set-lt (suc (t + i)) xs (t + i) z (omega arith), part-set (suc (b + i)) m xs (t + i) z (omega arith))
+
+pub subtract-end : (p : Float) (b t d : ℕ) (xs : List Float) (i : ℕ) → d ≤ i → subtracting p b t d xs i ≡ xs
+unfolding subtract-projection
+subtract-end p b t d xs i h =
+    let e : d - i ≡ 0 = omega arith in
+    rw e
+
+pub subtract-start : (p : Float) (b t d : ℕ) (xs : List Float) → subtracting p b t d xs 0 ≡ sets xs t (subtract-projection p (part t d xs) (part b d xs))
+subtract-start p b t d xs = simp (add-zero, sub-zero)
+
+-- ---- a direction cleared of each earlier one
+
+pub orthogonalise-length : (z : Float) (bs : List (List Float)) (v : List Float) → length (orthogonalise z bs v) ≡ length v
+unfolding orthogonalise
+orthogonalise-length z [] v = refl
+orthogonalise-length z (b ∷ bs) v = orthogonalise-length z bs (subtract-projection (dot-from z b v) v b) ∙ subtract-length (dot-from z b v) v b
+
+abbrev pub orthogonalising : ℕ → ℕ → List Float → ℕ → List Float
+orthogonalising d v xs p = sets xs (v * d) (orthogonalise zero⁺ (chunks d (v - p) (drop (p * d) xs)) (part (v * d) d xs))
+
+abbrev pub turned : ℕ → ℕ → List Float → ℕ → List Float
+turned d v xs p =
+    let b = part (p * d) d xs in
+    let t = part (v * d) d xs in
+    subtract-projection (dot-from zero⁺ b t) t b
+
+pub orthogonalise-next : (d v : ℕ) (xs : List Float) (p : ℕ) → p < v → v * d + d ≤ length xs
+    → orthogonalising d v xs p ≡ orthogonalising d v (sets xs (v * d) (turned d v xs p)) (p + 1)
+unfolding orthogonalise chunks
+orthogonalise-next d v xs p h g =
+    let m = v - (p + 1) in
+    let w = turned d v xs p in
+    let e₁ : v - p ≡ suc m = omega arith in
+    let e₂ : (p + 1) * d ≡ p * d + d = rw (add-one, suc-mul) in
+    let e₃ : v ≡ suc p + m = omega arith in
+    let e₄ : v * d ≡ p * d + d + m * d = ap (λ (n : ℕ). n * d) e₃ ∙ rw (add-mul, suc-mul) in
+    let e₅ : length w ≡ d = subtract-length _ _ _ ∙ part-length (v * d) d xs g in
+    let e₆ : length w ≡ length (orthogonalise zero⁺ (chunks d m (drop (p * d + d) xs)) w) = sym (orthogonalise-length zero⁺ (chunks d m (drop (p * d + d) xs)) w) in
+    rw (e₁, e₂, part-sets xs (v * d) w d e₅ g, chunks-sets d m (p * d + d) xs (v * d) w (omega arith), drop-drop d (p * d) xs)
+    (sym (sets-over xs (v * d) w (orthogonalise zero⁺ (chunks d m (drop (p * d + d) xs)) w) e₆ (omega arith)))
+
+pub orthogonalise-end : (d v : ℕ) (xs : List Float) (p : ℕ) → v ≤ p → v * d + d ≤ length xs → orthogonalising d v xs p ≡ xs
+unfolding orthogonalise chunks
+orthogonalise-end d v xs p h g =
+    let e : v - p ≡ 0 = omega arith in
+    rw e (sets-own xs (v * d) d g)
+
+pub orthogonalise-start : (d v : ℕ) (xs : List Float) → orthogonalising d v xs 0 ≡ sets xs (v * d) (orthogonalise zero⁺ (chunks d v xs) (part (v * d) d xs))
+orthogonalise-start d v xs = simp (zero-mul, sub-zero)
+
+-- a turn as the code has it: r is the product, over parts given by their ends
+pub orthogonalise-turn : (d v : ℕ) (xs : List Float) (p : ℕ) (r : Float) (ys : List Float) → p < v → v * d + d ≤ length xs
+    → r ≡ dot-from zero⁺ (part (p * d) (p * d + d - p * d) xs) (part (v * d) (v * d + d - v * d) xs)
+    → ys ≡ sets xs (v * d) (subtract-projection r (part (v * d) d xs) (part (p * d) d xs))
+    → orthogonalising d v xs p ≡ orthogonalising d v ys (p + 1)
+orthogonalise-turn d v xs p r ys h g e f =
+    let e′ : r ≡ dot-from zero⁺ (part (p * d) d xs) (part (v * d) d xs) = simp add-sub-cancel-left at e in
+    rw (f, e′) (orthogonalise-next d v xs p h g)

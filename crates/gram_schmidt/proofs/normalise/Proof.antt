@@ -1,0 +1,91 @@
+-- `gram_schmidt::normalise` meets its contract, by what the two tests tell of the length.
+use lib.Ieee.{nanBits, ofBits}
+use Rattle.gram_schmidt.proofs.Collapse.{low, high, held, normal-held, norm-collapsed, norm-divided, log-value, log-never}
+use borrow.Author.Needs.{needs}
+use Rattle.gram_schmidt.proofs.normalise.Statement.{statement}
+use Rattle.gram_schmidt.proofs.normalise.Tie as tie
+
+dot-disjoint-requires : tie.Need-dot-disjoint-requires
+dot-disjoint-requires c κs = search needs
+
+sqrt-requires : tie.Need-sqrt-requires
+sqrt-requires c κs = search needs
+
+float-from-bits-if1 : tie.Need-float-from-bits-if1
+unfolding nanBits
+float-from-bits-if1 c = tt
+
+same-length : tie.Need-same-length
+same-length c = search needs
+
+returns : tie.Need-returns
+unfolding ofBits
+returns c =
+    norm-collapsed (c .before .before .before .before .before .args .s .now) (c .before .before .dot-disjoint .result) (c .before .sqrt .result) (c .before .before .dot-disjoint .ensures) (c .before .sqrt .ensures) (low _ (c .if1 .taken))
+
+float-from-bits-if2 : tie.Need-float-from-bits-if2
+unfolding nanBits
+float-from-bits-if2 c = tt
+
+ln-requires : tie.Need-ln-requires
+ln-requires c κs = search needs
+
+enum-known-l : tie.Need-enum-known-l
+enum-known-l c = search needs
+
+enum-told : tie.Need-enum-told
+enum-told c = search needs
+
+same-length-2 : tie.Need-same-length-2
+same-length-2 c = search needs
+
+returns-2 : tie.Need-returns-2
+unfolding ofBits
+returns-2 c =
+    let b = c .before .before .before in
+    absurd (log-never _ _ _ (normal-held _ (b .before .if1 .left) (b .if2 .taken)) (c .before .before .ln .ensures) (c .enum-told .given .1))
+
+divide-requires : tie.Need-divide-requires
+divide-requires c κs = search needs
+
+same-length-3 : tie.Need-same-length-3
+same-length-3 c = search needs
+
+returns-3 : tie.Need-returns-3
+unfolding ofBits
+returns-3 c =
+    let m = c .before .before .before .before .before in
+    let b = m .before .before .before in
+    let r = b .before .before in
+    norm-divided (r .before .before .before .before .args .s .now) (r .before .dot-disjoint .result) (r .sqrt .result) (m .l .given .0 .0) (c .before .before .divide .last .0)
+    (r .before .dot-disjoint .ensures) (r .sqrt .ensures) (held _ (b .before .if1 .left) (b .if2 .taken))
+    (log-value _ _ _ (normal-held _ (b .before .if1 .left) (b .if2 .taken)) (m .before .before .ln .ensures) (m .l .given .1)) (c .before .before .divide .ensures)
+
+same-length-4 : tie.Need-same-length-4
+same-length-4 c = search needs
+
+returns-4 : tie.Need-returns-4
+unfolding ofBits
+returns-4 c =
+    norm-collapsed (c .before .before .before .before .before .before .args .s .now) (c .before .before .before .dot-disjoint .result) (c .before .before .sqrt .result) (c .before .before .before .dot-disjoint .ensures) (c .before .before .sqrt .ensures) (high _ (c .if2 .left))
+
+pub normalise-spec : {M : Type 1} → statement M
+normalise-spec =
+    tie.close
+    (tie.spec
+    dot-disjoint-requires
+    sqrt-requires
+    float-from-bits-if1
+    same-length
+    returns
+    float-from-bits-if2
+    ln-requires
+    enum-known-l
+    enum-told
+    same-length-2
+    returns-2
+    divide-requires
+    same-length-3
+    returns-3
+    same-length-4
+    returns-4)

@@ -1,0 +1,81 @@
+-- Document 01, "Orthonormalise", called alone: its tests 7 and 13, then 14, and what the two slices hold afterwards. Definitions only.
+use Prim.Native.Nat.{ℕ, _*_, _/_}
+use mathlib.Core.Bool.{Bool, true, false, cond}
+use mathlib.Core.List.{List, [], map}
+use mathlib.Core.Option.{Option, none, some}
+use lib.Dec.{eqb, ltb}
+use lib.ListN.{length}
+use lib.Seq.{sets}
+use lib.Ieee.{Float, lt}
+use Rattle.error.specs.Refusal.{refuse, reported}
+use Rattle.error.specs.declared.Refusal.{Refusal}
+use Rattle.error.specs.declared.Outcome.{Outcome}
+use Rattle.floats.specs.Arithmetic.{_⊘_, zero⁺, faint-limit}
+use Rattle.floats.specs.Vector.{dot-from, part, chunks, concat}
+use Rattle.sqrt.specs.SquareRoot.{root}
+use Rattle.ln.specs.Logarithm.{log}
+use Rattle.gram_schmidt.specs.Orthonormalise.{Lengths, Basis, orthonormalise, orthogonalise, collapsed}
+use Rattle.gram_schmidt.specs.declared.Normalised.{Normalised}
+use Rattle.gram_schmidt.specs.declared.Normalised.the-variants.{By, Collapsed}
+
+-- the sum of the squares, from +0.0
+abbrev pub squared-length : List Float → Float
+squared-length w = dot-from zero⁺ w w
+
+-- lengths by the root of the squared length; a direction is faint where its squared length is below 2 ^ -960
+abbrev pub euclidean : Lengths
+euclidean = record { start = zero⁺; norm = λ v. root (squared-length v); report = squared-length; log = log; faint = λ q. lt q faint-limit }
+
+-- ---- one direction
+
+-- direction v of a slice, cleared twice of those before it
+abbrev pub cleared : ℕ → ℕ → List Float → List Float
+cleared d v xs = orthogonalise zero⁺ (chunks d v xs) (orthogonalise zero⁺ (chunks d v xs) (part (v * d) d xs))
+
+abbrev pub pick : Bool → Normalised → Normalised → Normalised
+pick true a b = a
+pick false a b = b
+
+-- its logarithm and its squared length, unless it collapsed
+abbrev pub normalised : List Float → Normalised
+normalised w = pick (collapsed (root (squared-length w))) Collapsed (By (log (root (squared-length w))) (squared-length w))
+
+abbrev pub divided : List Float → List Float
+divided w = cond (collapsed (root (squared-length w))) w (map (λ x. x ⊘ root (squared-length w)) w)
+
+-- ---- all of them
+
+-- the answer, and what the two slices hold
+pub record Left : Type 0 where
+  pub refusal : Option Refusal
+  pub tangents : List Float
+  pub numbers : List Float
+
+abbrev pub holds : Option Refusal → List Float → List Float → Left
+holds r xs o = record { refusal = r; tangents = xs; numbers = o }
+
+abbrev pub collapse-refusal : Option ℕ → Option Refusal
+collapse-refusal none = none
+collapse-refusal (some v) = some (refuse 14 v)
+
+-- The directions are written from the start, the logarithms from the start of the second slice, and the squared lengths from place n. Leftover entries stay.
+unfoldable pub stored : ℕ → List Float → List Float → Basis → Left
+unfolding concat
+stored n xs out b = holds (collapse-refusal (b .collapse)) (sets xs 0 (concat (b .directions))) (sets (sets out n (b .reports)) 0 (b .logs))
+
+abbrev pub choose : Bool → Left → Left → Left
+choose true a b = a
+choose false a b = b
+
+-- of the slice xs as directions of d entries, with out for the numbers
+unfoldable pub orthonormalised : List Float → ℕ → List Float → Left
+unfolding stored orthonormalise chunks
+orthonormalised xs d out =
+    let n = length xs / d in
+    choose (eqb d 0) (holds (some (refuse 7 0)) xs out)
+    (choose (ltb (length out) (2 * n)) (holds (some (refuse 13 0)) xs out)
+    (stored n xs out (orthonormalise euclidean [] (chunks d n xs))))
+
+-- what the code's answer and its slices stand for
+abbrev pub left : Outcome → List Float → List Float → Left
+left r xs o = holds (reported r) xs o

@@ -1,0 +1,4 @@
+-- What the contracts cite, and document 01's marked examples.
+pub mod Orthonormalise
+pub mod GramSchmidt
+pub mod Marked
