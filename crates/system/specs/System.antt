@@ -1,0 +1,59 @@
+-- Document 01, "System": the vector fields and their tangent maps. Operations are rounded in the order written. Definitions only.
+use Prim.Native.Nat.{ℕ, _*_}
+use mathlib.Core.Bool.{Bool, true}
+use mathlib.Core.List.{List, [], _∷_, map}
+use lib.Dec.{eqb}
+use lib.ListN.{length, getD}
+use lib.Ieee.{Float, nan, neg}
+use Rattle.floats.specs.Arithmetic.{_⊕_, _⊖_, _⊗_, zero⁺, one, minus-two}
+use Rattle.floats.specs.Vector.{dot-from, chunks}
+use Rattle.system.specs.declared.System.{System}
+use Rattle.system.specs.declared.System.the-variants.{Lorenz, Rossler, VanDerPol, Linear}
+
+abbrev pub dim : System → ℕ
+dim (Lorenz σ ρ β) = 3
+dim (Rossler a b c) = 3
+dim (VanDerPol μ) = 2
+dim (Linear d) = d
+
+-- a matrix is lent to a linear system only: d * d floats in rows
+abbrev pub matrix-fits : System → List Float → Bool
+matrix-fits (Lorenz σ ρ β) m = true
+matrix-fits (Rossler a b c) m = true
+matrix-fits (VanDerPol μ) m = true
+matrix-fits (Linear d) m = eqb (length m) (d * d)
+
+-- the product of a matrix, given by its rows, and a vector: each sum starts at +0.0
+unfoldable pub times : List (List Float) → List Float → List Float
+unfolding dot-from
+times rows v = map (λ r. dot-from zero⁺ r v) rows
+
+abbrev at : List Float → ℕ → Float
+at v i = getD v i nan
+
+unfoldable pub field : System → List Float → List Float → List Float
+unfolding chunks times
+field (Lorenz σ ρ β) m p =
+    let x = at p 0 in let y = at p 1 in let z = at p 2 in
+    σ ⊗ (y ⊖ x) ∷ x ⊗ (ρ ⊖ z) ⊖ y ∷ x ⊗ y ⊖ β ⊗ z ∷ []
+field (Rossler a b c) m p =
+    let x = at p 0 in let y = at p 1 in let z = at p 2 in
+    neg y ⊖ z ∷ x ⊕ a ⊗ y ∷ b ⊕ z ⊗ (x ⊖ c) ∷ []
+field (VanDerPol μ) m p =
+    let x = at p 0 in let y = at p 1 in
+    y ∷ μ ⊗ (one ⊖ x ⊗ x) ⊗ y ⊖ x ∷ []
+field (Linear d) m p = times (chunks d d m) p
+
+-- of the direction t at the state p
+unfoldable pub tangent : System → List Float → List Float → List Float → List Float
+unfolding chunks times
+tangent (Lorenz σ ρ β) m p t =
+    let x = at p 0 in let y = at p 1 in let z = at p 2 in let u = at t 0 in let v = at t 1 in let w = at t 2 in
+    σ ⊗ (v ⊖ u) ∷ (ρ ⊖ z) ⊗ u ⊖ v ⊖ x ⊗ w ∷ y ⊗ u ⊕ x ⊗ v ⊖ β ⊗ w ∷ []
+tangent (Rossler a b c) m p t =
+    let x = at p 0 in let z = at p 2 in let u = at t 0 in let v = at t 1 in let w = at t 2 in
+    neg v ⊖ w ∷ u ⊕ a ⊗ v ∷ z ⊗ u ⊕ (x ⊖ c) ⊗ w ∷ []
+tangent (VanDerPol μ) m p t =
+    let x = at p 0 in let y = at p 1 in let u = at t 0 in let v = at t 1 in
+    v ∷ (minus-two ⊗ μ ⊗ x ⊗ y ⊖ one) ⊗ u ⊕ μ ⊗ (one ⊖ x ⊗ x) ⊗ v ∷ []
+tangent (Linear d) m p t = times (chunks d d m) t
