@@ -1,0 +1,5 @@
+-- Laws of the definitions of specs/, one subject a file.
+pub mod Prefix
+pub mod Simulation
+pub mod LeadingSpectrum
+pub mod Refusals

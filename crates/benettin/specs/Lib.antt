@@ -1,0 +1,7 @@
+-- The definition of a run, in the order of document 01, and what is stated of it.
+pub mod Run
+pub mod Estimate
+pub mod Outputs
+pub mod LeadingSpectrum
+pub mod Refusals
+pub mod Examples

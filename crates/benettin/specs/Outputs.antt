@@ -1,0 +1,87 @@
+-- What a run answers and leaves in its three outputs, flat, entry by entry. Definitions only.
+use Prim.Native.Nat.{ℕ, _-_}
+use mathlib.Core.List.{List, [], _∷_, _++_}
+use mathlib.Core.Option.{Option, none, some}
+use lib.ListN.{length, replicate}
+use lib.Seq.{sets}
+use lib.Ieee.{Float}
+use Rattle.error.specs.Refusal.{refuse, reported}
+use Rattle.error.specs.declared.Refusal.{Refusal}
+use Rattle.floats.specs.Arithmetic.{zero⁺}
+use Rattle.benettin.specs.Run.{OutputLengths, RunAnswer, ended, stopped, Row}
+use Rattle.benettin.specs.Estimate.{Input, estimate}
+use Rattle.benettin.specs.declared.SpectrumEstimate.{SpectrumEstimate}
+
+-- the answer, and what the outputs hold
+pub record Estimated : Type 0 where
+  pub refusal : Option Refusal
+  -- measured windows finished, and steps that passed every test
+  pub windows : ℕ
+  pub steps : ℕ
+  pub final-time : Float
+  pub measured-time : Float
+  -- sixteen of them
+  pub faint : List ℕ
+  pub rows : List Float
+  pub exponents : List Float
+  pub final-state : List Float
+
+-- one row of 1 + 2 * K floats: end time, K locals, K runnings
+abbrev pub flat-row : Row → List Float
+flat-row r = r .end-time ∷ r .locals ++ r .runnings
+
+-- each row stands behind the one before it, so that of window w at place w * (1 + 2 * K)
+unfoldable pub flat-rows : List Row → List Float
+flat-rows [] = []
+flat-rows (r ∷ rs) = flat-row r ++ flat-rows rs
+
+-- Rows are written from the start, as many as measured windows were finished; exponents and the final state only by a run that ends. All else stays as it was. The times of a refused run are +0.0.
+unfoldable pub outputs : ℕ → ℕ → List Float → List Float → List Float → RunAnswer → Estimated
+unfolding flat-rows
+outputs K windows rows exponents final (ended rs x) =
+    record {
+      refusal = none;
+      windows = windows;
+      steps = x .steps;
+      final-time = x .final-time;
+      measured-time = x .measured-time;
+      faint = x .faint ++ replicate (16 - K) 0;
+      rows = sets rows 0 (flat-rows rs);
+      exponents = sets exponents 0 (x .exponents);
+      final-state = sets final 0 (x .state);
+    }
+outputs K windows rows exponents final (stopped rs r f) =
+    record {
+      refusal = some (refuse (r .number) (r .place));
+      windows = r .finished;
+      steps = r .steps;
+      final-time = zero⁺;
+      measured-time = zero⁺;
+      faint = replicate 16 0;
+      rows = sets rows 0 (flat-rows rs);
+      exponents = exponents;
+      final-state = final;
+    }
+
+abbrev pub lengths-of : List Float → List Float → List Float → OutputLengths
+lengths-of rows exponents final = record { rows = length rows; exponents = length exponents; state = length final }
+
+-- of an input, K and the three outputs as they are handed over
+unfoldable pub estimated : Input → ℕ → List Float → List Float → List Float → Estimated
+unfolding estimate outputs
+estimated i K rows exponents final = outputs K (i .windows) rows exponents final (estimate i K (lengths-of rows exponents final))
+
+-- what the code's answer and the outputs stand for
+abbrev pub left : SpectrumEstimate → List Float → List Float → List Float → Estimated
+left r rows exponents final =
+    record {
+      refusal = reported (r .outcome);
+      windows = r .windows;
+      steps = r .steps;
+      final-time = r .«final_time»;
+      measured-time = r .«measured_time»;
+      faint = r .faint;
+      rows = rows;
+      exponents = exponents;
+      final-state = final;
+    }

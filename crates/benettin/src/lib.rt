@@ -1,0 +1,131 @@
+// Benettin's method: the settings of a run, its answer, and the definition of the whole run.
+//
+// specs/Run.antt defines a run over any dynamics, specs/Estimate.antt is document 01's run, specs/Outputs.antt is what it
+// leaves in the caller's slices. specs/LeadingSpectrum.antt states that the first rates hold still when more are asked
+// for, and proofs/LeadingSpectrum.antt proves it. The crates above prove that the code is this run.
+ghost use mathlib.Core.Path.{_≡_};
+ghost use Rattle.error.specs.Refusal.{reported};
+ghost use Rattle.error.specs.Tests.{first-failing};
+ghost use Rattle.benettin.specs.Estimate as Spec;
+use error::LyapunovError;
+use error::Outcome;
+
+// The settings of a run. The three counts are at most 16,777,216.
+pub struct BenettinConfig {
+    pub top_k: usize,
+    pub step_size: f64,
+    pub steps_per_window: u64,
+    pub windows: u64,
+    pub transient_windows: u64,
+    pub seed: u64,
+}
+
+// What building the settings answers.
+pub enum Configured {
+    Config(BenettinConfig),
+    Refused(LyapunovError),
+}
+
+// What a run answers beside the rows, the exponents and the final state. A refused run has finished `windows` measured
+// windows, its times are +0.0 and its faint counts 0.
+pub struct SpectrumEstimate {
+    pub outcome: Outcome,
+    pub windows: u64,
+    pub steps: u64,
+    pub final_time: f64,
+    pub measured_time: f64,
+    pub faint: [u64; 16],
+}
+
+// The tests 3 to 5.
+fn validate_limits(steps: u64, windows: u64, warm_up: u64) -> Outcome
+    ensures { λ r. ⌜ reported r ≡ first-failing (Spec.limit-tests steps windows «warm_up») ⌝ }
+{
+    if steps == 0 {
+        return Outcome::Refused(LyapunovError::ZeroStepsPerWindow);
+    }
+    if windows == 0 {
+        return Outcome::Refused(LyapunovError::ZeroWindows);
+    }
+    if 16777216 < steps {
+        return Outcome::Refused(LyapunovError::CountAboveLimit(0));
+    }
+    if 16777216 < windows {
+        return Outcome::Refused(LyapunovError::CountAboveLimit(1));
+    }
+    if 16777216 < warm_up {
+        return Outcome::Refused(LyapunovError::CountAboveLimit(2));
+    }
+    Outcome::Accepted
+}
+
+// The tests 1 to 5.
+pub fn validate_counts(
+    top_k: usize,
+    step_size: f64,
+    steps: u64,
+    windows: u64,
+    warm_up: u64,
+) -> Outcome
+    ensures { λ r. ⌜ reported r ≡ first-failing (Spec.setting-tests «top_k» «step_size» steps windows «warm_up») ⌝ }
+{
+    if top_k == 0 {
+        return Outcome::Refused(LyapunovError::ZeroTopK);
+    }
+    if floats::is_positive(step_size) {
+        validate_limits(steps, windows, warm_up)
+    } else {
+        Outcome::Refused(LyapunovError::InvalidStepSize)
+    }
+}
+
+impl BenettinConfig {
+    // Settings with no warm-up windows and the default seed, tested by 1 to 5.
+    pub fn new(top_k: usize, step_size: f64, steps_per_window: u64, windows: u64) -> Configured
+        ensures { λ r. ⌜ Spec.configuration r ≡ Spec.configured «top_k» «step_size» «steps_per_window» windows ⌝ }
+    {
+        if let Outcome::Refused(e) = validate_counts(
+            top_k,
+            step_size,
+            steps_per_window,
+            windows,
+            0,
+        ) {
+            return Configured::Refused(e);
+        }
+        Configured::Config(BenettinConfig {
+            top_k,
+            step_size,
+            steps_per_window,
+            windows,
+            transient_windows: 0,
+            seed: 0x4c59_4150_554e_4f56,
+        })
+    }
+
+    pub fn with_transient_windows(self, windows: u64) -> BenettinConfig
+        ensures { λ r. ⌜ r ≡ Spec.with-warm-up windows self ⌝ }
+    {
+        BenettinConfig {
+            top_k: self.top_k,
+            step_size: self.step_size,
+            steps_per_window: self.steps_per_window,
+            windows: self.windows,
+            transient_windows: windows,
+            seed: self.seed,
+        }
+    }
+
+    pub fn with_seed(self, seed: u64) -> BenettinConfig
+        ensures { λ r. ⌜ r ≡ Spec.with-seed seed self ⌝ }
+    {
+        BenettinConfig {
+            top_k: self.top_k,
+            step_size: self.step_size,
+            steps_per_window: self.steps_per_window,
+            windows: self.windows,
+            transient_windows: self.transient_windows,
+            seed,
+        }
+    }
+}
