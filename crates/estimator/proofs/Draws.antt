@@ -1,0 +1,199 @@
+-- The draw, and what comes before the first measured window.
+use Prim.Native.Nat.{ℕ, zero, suc, _+_, _-_, _*_, _≤_, _<_}
+use native.Mathlib.Nat.{suc-mul, add-comm, mul-le-mul-right, mul-le-mul-left, le-trans}
+use native.Mathlib.Numerals.{add-one}
+use native.Mathlib.Omega.{arith}
+use mathlib.Core.Path.{_≡_, refl, sym, ap, _∙_}
+use mathlib.Core.List.{List, _++_, append-nil}
+use lib.ListN.{length, take, drop, getD, set, replicate, drop-of-length-le}
+use lib.Seq.{take-all, take-at, drop-at, drop-cons, take-suc-set, append-snoc}
+use lib.Ieee.{Float, nan}
+use mathlib.Core.Bool.{true, false}
+use lib.Ieee.Scale.{finite}
+use Rattle.error.specs.declared.LyapunovError.{LyapunovError}
+use Rattle.error.specs.declared.Outcome.{Outcome}
+use Rattle.error.specs.declared.Outcome.the-variants.{Accepted, Refused}
+use Rattle.floats.specs.Arithmetic.{_⊗_, zero⁺}
+use Rattle.floats.specs.Vector.{chunks}
+use Rattle.system.specs.System.{dim}
+use Rattle.system.specs.declared.System.{System}
+use Rattle.gram_schmidt.specs.GramSchmidt.{orthonormalised}
+use Rattle.benettin.specs.Run.{Dynamics, Generator, RunState, Status, ok, refused, refused-at, steps, unless-collapsed, reorthonormalise, warm-up, measured, as-float, _then_, draws, generator-after, drawn-directions, check-duration, warmed-up, measured-from, course}
+use Rattle.benettin.specs.Estimate.{dynamics, splitmix64, limit}
+use Rattle.benettin.specs.Outputs.{left, flat-rows}
+use Rattle.benettin.proofs.Prefix.{take-replicate}
+use Rattle.estimator.specs.Progress.{run-state, refused-by, status, Within, Room, Recorded, recorded, written}
+use Rattle.estimator.specs.Start.{fresh, drawn}
+use Rattle.estimator.specs.declared.Progress.{Progress}
+use Rattle.estimator.proofs.Windows.{basis, collapsed-refused, whole, directions-are, logs-are}
+use Rattle.splitmix64.specs.Mix.{next-state, mix, unit}
+use Rattle.gram_schmidt.specs.GramSchmidt as GramSchmidt
+use Rattle.error.specs.Refusal.{reported}
+use Rattle.estimator.proofs.Windows.{reported-is, reports-are}
+use Rattle.estimator.specs.Progress.{Fitting}
+
+-- ---- the loop that draws
+
+module _ (G : Generator) where
+  pub draws-next : (xs : List Float) (n i s : ℕ) → i < n → length xs ≡ n
+      → take i xs ++ draws G (n - i) s ≡ take (i + 1) (set xs i (G .draw (G .next s))) ++ draws G (n - (i + 1)) (G .next s)
+  unfolding draws
+  draws-next xs n i s h e =
+      let z : n - i ≡ suc (n - (i + 1)) = omega arith in
+      let x = G .draw (G .next s) in
+      rw (z, add-one i, take-suc-set xs i x (omega arith)) (sym (append-snoc (take i xs) x (draws G (n - suc i) (G .next s))))
+
+  pub draws-end : (xs : List Float) (n i s : ℕ) → n ≤ i → length xs ≡ n → take i xs ++ draws G (n - i) s ≡ xs
+  unfolding draws
+  draws-end xs n i s h e = let z : n - i ≡ 0 = omega arith in rw (z, append-nil) (take-all i xs (omega arith))
+
+  draws-length : (n s : ℕ) → length (draws G n s) ≡ n
+  unfolding draws
+  draws-length zero s = refl
+  draws-length (suc n) s = ap suc (draws-length n (G .next s))
+
+  draws-add : (n m s : ℕ) → draws G (n + m) s ≡ draws G n s ++ draws G m (generator-after (G .next) n s)
+  unfolding draws generator-after
+  draws-add zero m s = let z : 0 + m ≡ m = omega arith in rw z
+  draws-add (suc n) m s = let z : suc n + m ≡ suc (n + m) = omega arith in rw (z, draws-add n m (G .next s))
+
+  -- direction by direction
+  pub drawn-are : (d k s : ℕ) → chunks d k (draws G (k * d) s) ≡ drawn-directions G d k s
+  unfolding chunks drawn-directions
+  drawn-are d zero s = refl
+  drawn-are d (suc k) s =
+      let l : length (draws G d s) ≡ d = draws-length d s in
+      rw (
+        suc-mul,
+        add-comm (k * d) d,
+        draws-add d (k * d) s,
+        take-at (draws G d s) (draws G (k * d) (generator-after (G .next) d s)) d l,
+        drop-at (draws G d s) (draws G (k * d) (generator-after (G .next) d s)) d l,
+        drawn-are d k (generator-after (G .next) d s),
+      )
+
+pub draws-turn : (xs : List Float) (n i s s′ : ℕ) (x : Float) → i < n → length xs ≡ n → s′ ≡ next-state s → x ≡ unit (mix s′)
+    → take i xs ++ draws splitmix64 (n - i) s ≡ take (i + 1) (set xs i x) ++ draws splitmix64 (n - (i + 1)) s′
+unfolding splitmix64
+draws-turn xs n i s s′ x h e a b = draws-next splitmix64 xs n i s h e ∙ rw (b, a)
+
+-- ---- before the first window
+
+zeros : (n i : ℕ) → _≡_ {A = ℕ} (getD (replicate n 0) i 0) 0
+zeros zero i = refl
+zeros (suc n) zero = refl
+zeros (suc n) (suc i) = zeros n i
+
+product : (a b : ℕ) → a ≤ limit → b ≤ limit → a * b ≤ limit * limit
+product a b h g = le-trans (mul-le-mul-right b h) (mul-le-mul-left limit g)
+
+pub room-fresh : (w n : ℕ) (v : Outcome) (time : Float) → finite time ≡ true → w ≤ limit → n ≤ limit → Room (w * n) w 0 (fresh v time)
+room-fresh w n v time τ h g =
+    record { counts = refl; totals = refl; clock = τ; steps = omega (arith, product w n h g); windows = omega arith; faint = λ i. omega (arith, zeros 16 i) }
+
+pub within-fresh : (k w n : ℕ) (v u : Outcome) (time : Float) → finite time ≡ true → Within k (w * n) w 0 (fresh v time) (fresh u time)
+within-fresh k w n v u time τ = record { behind = refl; counts = refl; totals = refl; clock = τ; steps = omega arith; windows = omega arith; faint = λ i. omega arith }
+
+pub room-ready : (k w n W : ℕ) (v : Outcome) (time : Float) (p : Progress) → w ≤ limit → n ≤ limit → W ≤ limit → Within k (w * n) w 0 (fresh v time) p → Room (W * n) W W p
+room-ready k w n W v time p h g f x =
+    record {
+      counts = x .counts;
+      totals = x .totals;
+      clock = x .clock;
+      steps = omega (arith, x .steps, product w n h g, product W n f g);
+      windows = omega (arith, x .windows);
+      faint = λ i. omega (arith, x .faint i, zeros 16 i);
+    }
+
+-- the drawn basis, as the code leaves it
+module _ (S : System) (m : List Float) (h : Float) (n w k : ℕ) (x t₀ norms : List Float) (time : Float) (seed : ℕ) (F : Fitting S m h x t₀ norms k)
+    (r : Outcome) (t′ norms′ : List Float) (e : GramSchmidt.left r t′ norms′ ≡ orthonormalised (draws splitmix64 (length t₀) seed) (length x) norms) where
+  abbrev t : List Float
+  t = draws splitmix64 (k * dim S) seed
+
+  abbrev c₀ : RunState
+  c₀ = drawn (dim S) k x time seed
+
+  e′ : GramSchmidt.left r t′ norms′ ≡ orthonormalised t (dim S) norms
+  e′ =
+      e
+      ∙ ap (λ (j : ℕ). orthonormalised (draws splitmix64 j seed) (length x) norms) (F .tangents)
+      ∙ ap (λ (j : ℕ). orthonormalised (draws splitmix64 (k * j) seed) j norms) (sym (F .state))
+
+  z : 0 < dim S
+  z = rw (F .state) (F .some)
+
+  l : length t ≡ k * dim S
+  l = draws-length splitmix64 (k * dim S) seed
+
+  basis-is : reorthonormalise (dynamics S m h n) c₀ ≡ unless-collapsed (basis (dim S) k t .collapse) c₀ (basis (dim S) k t)
+  unfolding reorthonormalise dynamics
+  basis-is = rw (drawn-are splitmix64 (dim S) k seed)
+
+  -- a collapse
+  pub ready-14 : (ε : LyapunovError) → r ≡ Refused ε → refused (refused-by ε c₀) ≡ warmed-up (dynamics S m h n) n w c₀
+  unfolding warmed-up _then_
+  ready-14 ε f =
+      let s : reorthonormalise (dynamics S m h n) c₀ ≡ refused (refused-by ε c₀) =
+      basis-is ∙ collapsed-refused (basis (dim S) k t .collapse) c₀ (basis (dim S) k t) ε (sym (ap reported f) ∙ reported-is (dim S) k t norms z (F .few) l (F .norms) r t′ norms′ e′) in
+      rw s
+
+  basis-done : r ≡ Accepted → reorthonormalise (dynamics S m h n) c₀ ≡ ok (run-state (dim S) k x t′ norms′ (fresh Accepted time))
+  unfolding unless-collapsed
+  basis-done f =
+      basis-is
+      ∙ rw (
+        whole (dim S) k t norms z (F .few) l (F .norms) r t′ norms′ e′ f,
+        directions-are (dim S) k t norms z (F .few) l (F .norms) r t′ norms′ e′ f,
+        logs-are (dim S) k t norms z (F .few) l (F .norms) r t′ norms′ e′ f,
+        reports-are (dim S) k t norms z (F .few) l (F .norms) r t′ norms′ e′ f,
+        take-replicate zero⁺ k 16 (F .few),
+        take-replicate {A = ℕ} 0 k 16 (F .few),
+      )
+
+  -- 15
+  pub ready-15 : (u : Float) → r ≡ Accepted → u ≡ as-float n → finite (h ⊗ u) ≡ false → refused (refused-at 15 0 c₀) ≡ warmed-up (dynamics S m h n) n w c₀
+  unfolding warmed-up _then_ check-duration dynamics
+  ready-15 u f ν b = let b′ : finite (h ⊗ as-float n) ≡ false = rw ν at b in rw (basis-done f, b′)
+
+  pub ready-warm : (u : Float) (p : Progress) (o : Status) → r ≡ Accepted → u ≡ as-float n → finite (h ⊗ u) ≡ true → p ≡ fresh Accepted time
+      → o ≡ warm-up (dynamics S m h n) n w (run-state (dim S) k x t′ norms′ p) → o ≡ warmed-up (dynamics S m h n) n w c₀
+  unfolding warmed-up _then_ check-duration dynamics
+  ready-warm u p o f ν b π ω = let b′ : finite (h ⊗ as-float n) ≡ true = rw ν at b in ω ∙ rw (basis-done f, b′, π)
+
+-- ---- the whole run
+
+module _ (M : Dynamics) (s w n : ℕ) (c : RunState) (rows : List Float) (e : RunState) (v : Outcome) (f : status v e ≡ warmed-up M s w c) where
+  pub trip-stop : (ε : LyapunovError) → v ≡ Refused ε → recorded rows (status v e) ≡ written rows 0 (course M s w s n c)
+  unfolding course measured-from flat-rows
+  trip-stop ε g = rw (← f, g)
+
+  pub trip-on : (x : Recorded) → v ≡ Accepted → x ≡ written rows 0 (measured M s n e) → x ≡ written rows 0 (course M s w s n c)
+  unfolding course measured-from
+  trip-on x g h = h ∙ rw (← f, g)
+
+-- ---- a copy
+
+pub copy-next : (out from : List Float) (i : ℕ) → i < length out → i < length from
+    → take i out ++ drop i from ≡ take (i + 1) (set out i (getD from i nan)) ++ drop (i + 1) from
+copy-next out from i h g =
+    let z = getD from i nan in
+    rw (add-one, take-suc-set out i z h, drop-cons from i nan g) (sym (append-snoc (take i out) z (drop (suc i) from)))
+
+pub copy-end : (out from : List Float) (i : ℕ) → length out ≤ i → length from ≤ i → take i out ++ drop i from ≡ out
+copy-end out from i h g = rw (drop-of-length-le from g, append-nil) (take-all i out h)
+
+-- ---- as the code has it
+
+pub fresh-stop : (d k : ℕ) (x t n : List Float) (time : Float) (p : Progress) (ε : LyapunovError) (y : List Float) (seed : ℕ) (o : Status) → p ≡ fresh (Refused ε) time → refused (refused-by ε (drawn d k y time seed)) ≡ o
+    → status (p .outcome) (run-state d k x t n p) ≡ o
+fresh-stop d k x t n time p ε y seed o e h = rw e h
+
+pub fresh-within : (k w n : ℕ) (u : Outcome) (time : Float) (p : Progress) → finite time ≡ true → p ≡ fresh u time → Within k (w * n) w 0 (fresh Accepted time) p
+fresh-within k w n u time p τ e = rw e (within-fresh k w n Accepted u time τ)
+
+pub from-within : (k w n : ℕ) (time : Float) (p q : Progress) → p ≡ fresh Accepted time → Within k (w * n) w 0 p q → Within k (w * n) w 0 (fresh Accepted time) q
+from-within k w n time p q e h = rw (← e) h
+
+pub from-room : (w n : ℕ) (time : Float) (p : Progress) → finite time ≡ true → p ≡ fresh Accepted time → w ≤ limit → n ≤ limit → Room (w * n) w 0 p
+from-room w n time p τ e h g = rw e (room-fresh w n Accepted time τ h g)

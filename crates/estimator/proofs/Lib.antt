@@ -1,0 +1,11 @@
+-- Laws that the proofs of the functions cite, one subject a file.
+pub mod Lists
+pub mod Rows
+pub mod Steps
+pub mod Loops
+pub mod Windows
+pub mod Draws
+pub mod Closing
+pub mod Answers
+pub mod Tests
+pub mod LeadingOutputs

@@ -1,0 +1,98 @@
+-- Loops that go over lists entry by entry: one more turn, and the end.
+use Prim.Native.Nat.{ℕ, zero, suc, _+_, _≤_, _<_}
+use native.Mathlib.Numerals.{add-one}
+use native.Mathlib.Omega.{arith}
+use mathlib.Core.Path.{_≡_, refl, sym, ap, _∙_}
+use mathlib.Core.List.{List, [], _∷_, _++_, map, append-nil}
+use lib.ListN.{length, take, drop, getD, set, drop-of-length-le, take-append-drop, length-set}
+use lib.Seq.{drop-cons, take-suc-set, drop-set-lt, append-snoc, take-all, set-getD, getD-set-other}
+use lib.Ieee.{Float, nan}
+use mathlib.Core.Bool.{Bool, true, false, cond}
+use Rattle.system.specs.Stepper.{zip}
+use Rattle.gram_schmidt.specs.GramSchmidt.{euclidean}
+use Rattle.benettin.specs.Run.{row}
+use Rattle.estimator.specs.Progress.{updated, counted}
+
+-- ---- entry by entry, in place
+
+module _ {a b} {A : Type a} {B : Type b} (f : A → B → A) where
+  pub updated-next : (xs : List A) (ys : List B) (i : ℕ) (x : A) (y : B) → i < length xs → i < length ys
+      → take i xs ++ updated f (drop i xs) (drop i ys)
+      ≡ take (i + 1) (set xs i (f (getD xs i x) (getD ys i y))) ++ updated f (drop (i + 1) (set xs i (f (getD xs i x) (getD ys i y)))) (drop (i + 1) ys)
+  unfolding updated
+  updated-next xs ys i x y h g =
+      let z = f (getD xs i x) (getD ys i y) in
+      rw (add-one, take-suc-set xs i z h, drop-set-lt (suc i) xs i z (omega arith), drop-cons xs i x h, drop-cons ys i y g)
+      (sym (append-snoc (take i xs) z (updated f (drop (suc i) xs) (drop (suc i) ys))))
+
+  -- an entry that is left as it is
+  pub updated-same : (xs : List A) (ys : List B) (i : ℕ) (x : A) (y : B) → i < length xs → i < length ys → f (getD xs i x) (getD ys i y) ≡ getD xs i x
+      → take i xs ++ updated f (drop i xs) (drop i ys) ≡ take (i + 1) xs ++ updated f (drop (i + 1) xs) (drop (i + 1) ys)
+  updated-same xs ys i x y h g e = updated-next xs ys i x y h g ∙ rw (e, set-getD xs i x)
+
+  updated-none : (xs : List A) → updated f xs [] ≡ xs
+  unfolding updated
+  updated-none [] = refl
+  updated-none (x ∷ xs) = refl
+
+  pub updated-end : (xs : List A) (ys : List B) (i : ℕ) → length ys ≤ i → take i xs ++ updated f (drop i xs) (drop i ys) ≡ xs
+  updated-end xs ys i h = rw (drop-of-length-le ys h, updated-none (drop i xs)) (take-append-drop i xs)
+
+  pub updated-length : (xs : List A) (ys : List B) → length (updated f xs ys) ≡ length xs
+  unfolding updated
+  updated-length [] ys = refl
+  updated-length (x ∷ xs) [] = refl
+  updated-length (x ∷ xs) (y ∷ ys) = ap suc (updated-length xs ys)
+
+  -- the entries that were gone over, and those behind them
+  pub updated-take : (xs : List A) (ys : List B) (k : ℕ) → length ys ≡ k → k ≤ length xs → take k (updated f xs ys) ≡ zip f (take k xs) ys
+  unfolding updated zip
+  updated-take xs [] zero e h = refl
+  updated-take xs [] (suc k) e h = absurd (omega arith)
+  updated-take xs (y ∷ ys) zero e h = absurd (omega arith)
+  updated-take [] (y ∷ ys) (suc k) e h = absurd (omega arith)
+  updated-take (x ∷ xs) (y ∷ ys) (suc k) e h = ap (λ (t : List A). f x y ∷ t) (updated-take xs ys k (omega arith) (omega arith))
+
+  pub updated-drop : (xs : List A) (ys : List B) (k : ℕ) → length ys ≤ k → drop k (updated f xs ys) ≡ drop k xs
+  unfolding updated
+  updated-drop [] ys k e = refl
+  updated-drop (x ∷ xs) [] k e = refl
+  updated-drop (x ∷ xs) (y ∷ ys) zero e = absurd (omega arith)
+  updated-drop (x ∷ xs) (y ∷ ys) (suc k) e = updated-drop xs ys k (omega arith)
+
+cond-more : (b : Bool) (n : ℕ) → cond b (suc n) n ≤ n + 1
+cond-more true n = omega arith
+cond-more false n = omega arith
+
+pub counted-more : (xs : List ℕ) (ys : List Float) (i : ℕ) → getD (updated counted xs ys) i 0 ≤ getD xs i 0 + 1
+unfolding updated
+counted-more [] ys i = omega arith
+counted-more (x ∷ xs) [] i = omega arith
+counted-more (x ∷ xs) (y ∷ ys) zero = cond-more (euclidean .faint y) x
+counted-more (x ∷ xs) (y ∷ ys) (suc i) = counted-more xs ys i
+
+-- a turn of the count: a faint mark, and one that is not
+module _ (xs : List ℕ) (ys : List Float) (i : ℕ) (h : i < length xs) (g : i < length ys) where
+  pub counted-yes : (zs : List ℕ) → euclidean .faint (getD ys i nan) ≡ true → zs ≡ set xs i (getD xs i 0 + 1)
+      → (length zs ≡ length xs) × (take i xs ++ updated counted (drop i xs) (drop i ys) ≡ take (i + 1) zs ++ updated counted (drop (i + 1) zs) (drop (i + 1) ys)) × ((j : ℕ) → i + 1 ≤ j → getD zs j 0 ≡ getD xs j 0)
+  counted-yes zs f e =
+      let t : counted (getD xs i 0) (getD ys i nan) ≡ getD xs i 0 + 1 = rw (f, add-one) in
+      let z : zs ≡ set xs i (counted (getD xs i 0) (getD ys i nan)) = e ∙ ap (λ (n : ℕ). set xs i n) (sym t) in
+      (ap length e ∙ length-set xs i _, updated-next counted xs ys i 0 nan h g ∙ rw z, λ j l. ap (λ (w : List ℕ). getD w j 0) e ∙ getD-set-other xs i j _ 0 (λ q. omega arith))
+
+  pub counted-no : (zs : List ℕ) → euclidean .faint (getD ys i nan) ≡ false → zs ≡ xs
+      → (length zs ≡ length xs) × (take i xs ++ updated counted (drop i xs) (drop i ys) ≡ take (i + 1) zs ++ updated counted (drop (i + 1) zs) (drop (i + 1) ys)) × ((j : ℕ) → i + 1 ≤ j → getD zs j 0 ≡ getD xs j 0)
+  counted-no zs f e =
+      let t : counted (getD xs i 0) (getD ys i nan) ≡ getD xs i 0 = rw f in
+      (ap length e, updated-same counted xs ys i 0 nan h g t ∙ rw e, λ j l. ap (λ (w : List ℕ). getD w j 0) e)
+
+-- ---- a slice filled with other values
+
+pub fill-next : (f : Float → Float) (row values : List Float) (i : ℕ) → i < length row → i < length values
+    → take i row ++ map f (drop i values) ≡ take (i + 1) (set row i (f (getD values i nan))) ++ map f (drop (i + 1) values)
+fill-next f row values i h g =
+    let z = f (getD values i nan) in
+    rw (add-one, take-suc-set row i z h, drop-cons values i nan g) (sym (append-snoc (take i row) z (map f (drop (suc i) values))))
+
+pub fill-end : (f : Float → Float) (row values : List Float) (i : ℕ) → length row ≤ i → length values ≤ i → take i row ++ map f (drop i values) ≡ row
+fill-end f row values i h g = rw (drop-of-length-le values g, append-nil) (take-all i row h)

@@ -1,0 +1,179 @@
+-- A window, from what its three calls tell.
+use Prim.Native.Nat.{ℕ, _+_, _-_, _*_, _/_, _≤_, _<_}
+use native.Mathlib.Nat.{mul-div-cancel}
+use native.Mathlib.Omega.{arith}
+use mathlib.Core.Path.{_≡_, refl, sym, ap, _∙_}
+use mathlib.Core.List.{List, [], _++_}
+use mathlib.Core.Option.{Option, none, some}
+use borrow.Author.Tests.{ne-eqb, le-ltb}
+use lib.ListN.{length, take, drop, length-take}
+use lib.Seq.{take-at, drop-at}
+use lib.Ieee.{Float}
+use mathlib.Core.Bool.{true}
+use lib.Ieee.Scale.{finite}
+use Rattle.error.specs.Refusal.{refusal, refuse, reported}
+use Rattle.error.specs.declared.LyapunovError.{LyapunovError}
+use Rattle.error.specs.declared.Outcome.{Outcome}
+use Rattle.error.specs.declared.Outcome.the-variants.{Accepted, Refused}
+use Rattle.floats.specs.Vector.{chunks, concat}
+use Rattle.floats.proofs.Vector.{Sized, chunks-sized, chunks-concat, chunks-length}
+use Rattle.system.specs.System.{dim}
+use Rattle.system.specs.Stepper.{zip}
+use Rattle.system.specs.declared.System.{System}
+use Rattle.gram_schmidt.specs.Orthonormalise.{Basis, orthonormalise}
+use Rattle.gram_schmidt.specs.GramSchmidt as GramSchmidt
+use Rattle.gram_schmidt.specs.GramSchmidt.{euclidean, stored, orthonormalised, collapse-refusal, holds}
+use Rattle.gram_schmidt.proofs.Finished.{after, numbers-length}
+use Rattle.benettin.specs.Run.{Dynamics, RunState, RunRefusal, ok, refused, steps, unless-collapsed, reorthonormalise, with-basis, count-faint, window, _then_}
+use Rattle.benettin.specs.Estimate.{dynamics}
+use Rattle.benettin.proofs.Prefix.{orthonormalise-sized, orthonormalise-whole}
+use Rattle.estimator.specs.Progress.{with-steps, run-state, refused-by, status, updated, counted, Within}
+use Rattle.estimator.specs.declared.Advance.{Advance}
+use Rattle.estimator.specs.declared.Progress.{Progress}
+use Rattle.estimator.proofs.Lists.{updated-take, updated-drop, updated-length, counted-more}
+
+-- ---- the orthonormaliser's answer
+
+abbrev pub basis : ℕ → ℕ → List Float → Basis
+basis d k t = orthonormalise euclidean [] (chunks d k t)
+
+pub collapsed-refused : (o : Option ℕ) (c : RunState) (b : Basis) (ε : LyapunovError) → some (refusal ε) ≡ collapse-refusal o → unless-collapsed o c b ≡ refused (refused-by ε c)
+unfolding unless-collapsed
+collapsed-refused none c b ε e = let z : _≡_ {A = ℕ} 0 1 = cc in absurd (omega arith)
+collapsed-refused (some j) c b ε e = let z : refusal ε ≡ refuse 14 j = cc in rw z
+
+no-collapse : (o : Option ℕ) → none ≡ collapse-refusal o → o ≡ none
+no-collapse none e = refl
+no-collapse (some j) e = let z : _≡_ {A = ℕ} 0 1 = cc in absurd (omega arith)
+
+module _ (d k : ℕ) (t out : List Float) (h : 0 < d) (g : k ≤ 16) (l : length t ≡ k * d) (m : length out ≡ 32) where
+  stored-is : orthonormalised t d out ≡ stored k t out (basis d k t)
+  unfolding orthonormalised
+  stored-is =
+      let e : length t / d ≡ k = ap (λ (n : ℕ). n / d) l ∙ mul-div-cancel k h in
+      rw (e, ne-eqb d 0 (λ z. omega arith), le-ltb (length out) (2 * k) (omega arith))
+
+  module _ (r : Outcome) (t′ out′ : List Float) (e : GramSchmidt.left r t′ out′ ≡ orthonormalised t d out) where
+    pub reported-is : reported r ≡ collapse-refusal (basis d k t .collapse)
+    unfolding stored
+    reported-is = ap (λ (x : GramSchmidt.Left). x .refusal) (e ∙ stored-is)
+
+    module _ (f : r ≡ Accepted) where
+      pub whole : basis d k t .collapse ≡ none
+      whole = no-collapse (basis d k t .collapse) (sym (ap reported f) ∙ reported-is)
+
+      left-is : GramSchmidt.left r t′ out′ ≡ holds none (concat (basis d k t .directions) ++ drop (k * d) t) (basis d k t .logs ++ (basis d k t .reports ++ drop (k + k) out))
+      left-is = e ∙ stored-is ∙ after d k t out (omega arith) (omega arith) whole
+
+      logs-length : length (basis d k t .logs) ≡ k
+      logs-length = numbers-length [] (chunks d k t) whole .0 ∙ chunks-length d k t
+
+      reports-length : length (basis d k t .reports) ≡ k
+      reports-length = numbers-length [] (chunks d k t) whole .1 ∙ chunks-length d k t
+
+      pub directions-are : chunks d k t′ ≡ basis d k t .directions
+      directions-are =
+          let n : length (basis d k t .directions) ≡ k = orthonormalise-whole euclidean [] (chunks d k t) .0 ∙ chunks-length d k t in
+          let s : Sized d (basis d k t .directions) = orthonormalise-sized euclidean d [] (chunks d k t) (chunks-sized d k t (omega arith)) in
+          ap (λ (x : GramSchmidt.Left). chunks d k (x .tangents)) left-is
+          ∙ ap (λ (j : ℕ). chunks d j (concat (basis d k t .directions) ++ drop (k * d) t)) (sym n)
+          ∙ chunks-concat d (basis d k t .directions) (drop (k * d) t) s
+
+      pub logs-are : take k out′ ≡ basis d k t .logs
+      logs-are = ap (λ (x : GramSchmidt.Left). take k (x .numbers)) left-is ∙ take-at (basis d k t .logs) _ k logs-length
+
+      pub reports-are : take k (drop k out′) ≡ basis d k t .reports
+      reports-are =
+          ap (λ (x : GramSchmidt.Left). take k (drop k (x .numbers))) left-is
+          ∙ ap (take k) (drop-at (basis d k t .logs) (basis d k t .reports ++ drop (k + k) out) k logs-length)
+          ∙ take-at (basis d k t .reports) _ k reports-length
+
+      pub reports-many : length (take k (drop k out′)) ≡ k
+      reports-many = ap length reports-are ∙ reports-length
+
+-- ---- a window
+
+module _ (M : Dynamics) (n : ℕ) (c : RunState) where
+  pub window-refused : (r : RunRefusal) → steps M n c ≡ refused r → window M n c ≡ refused r
+  unfolding window _then_
+  window-refused r e = rw e
+
+  pub window-broken : (e : RunState) (r : RunRefusal) → steps M n c ≡ ok e → reorthonormalise M e ≡ refused r → window M n c ≡ refused r
+  unfolding window _then_
+  window-broken e r f g = rw (f, g)
+
+  pub window-ok : (e f : RunState) → steps M n c ≡ ok e → reorthonormalise M e ≡ ok f → window M n c ≡ ok (count-faint M f)
+  unfolding window _then_
+  window-ok e f g h = rw (g, h)
+
+abbrev pub counted-as : Progress → Advance → List ℕ → Progress
+counted-as p a f = record { outcome = Accepted; windows = p .windows; steps = a .steps; time = a .time; faint = f; sums = p .sums }
+
+module _ (S : System) (m : List Float) (h : Float) (n k : ℕ) (x t norms : List Float) (p : Progress) (a : Advance) (x′ t′ : List Float)
+    (A : (c : RunState) → status (a .outcome) (with-steps (dim S) k c x′ t′ (a .time) (a .steps)) ≡ steps (dynamics S m h n) n (with-steps (dim S) k c x t (p .time) (p .steps))) where
+  abbrev c₀ : RunState
+  c₀ = run-state (dim S) k x t norms p
+
+  abbrev c₁ : RunState
+  c₁ = with-steps (dim S) k c₀ x′ t′ (a .time) (a .steps)
+
+  -- a step refused
+  pub window-16 : (ε : LyapunovError) → a .outcome ≡ Refused ε → refused (refused-by ε c₁) ≡ window (dynamics S m h n) n c₀
+  window-16 ε v = sym (window-refused (dynamics S m h n) n c₀ (refused-by ε c₁) (sym (A c₀) ∙ rw v))
+
+  module _ (v : a .outcome ≡ Accepted) (d : ℕ) (δ : dim S ≡ d) (z : 0 < d) (g : k ≤ 16) (l : length t′ ≡ k * d) (w : length norms ≡ 32)
+      (r : Outcome) (t″ norms′ : List Float) (e : GramSchmidt.left r t″ norms′ ≡ orthonormalised t′ d norms) where
+    moved : steps (dynamics S m h n) n c₀ ≡ ok c₁
+    moved = sym (A c₀) ∙ rw v
+
+    e′ : GramSchmidt.left r t″ norms′ ≡ orthonormalised t′ (dim S) norms
+    e′ = e ∙ ap (λ (j : ℕ). orthonormalised t′ j norms) (sym δ)
+
+    z′ : 0 < dim S
+    z′ = rw δ z
+
+    l′ : length t′ ≡ k * dim S
+    l′ = l ∙ ap (λ (j : ℕ). k * j) (sym δ)
+
+    -- a collapse
+    pub window-14 : (ε : LyapunovError) → r ≡ Refused ε → refused (refused-by ε c₁) ≡ window (dynamics S m h n) n c₀
+    unfolding reorthonormalise dynamics
+    window-14 ε f =
+        sym
+        (window-broken (dynamics S m h n) n c₀ c₁ (refused-by ε c₁) moved
+        (collapsed-refused (basis (dim S) k t′ .collapse) c₁ (basis (dim S) k t′) ε (sym (ap reported f) ∙ reported-is (dim S) k t′ norms z′ g l′ w r t″ norms′ e′)))
+
+    -- none
+    pub window-done : (faint : List ℕ) → r ≡ Accepted → k ≤ length (p .faint) → faint ≡ updated counted (p .faint) (take (k + k - k) (drop k norms′))
+        → ok (run-state (dim S) k x′ t″ norms′ (counted-as p a faint)) ≡ window (dynamics S m h n) n c₀
+    unfolding reorthonormalise unless-collapsed count-faint dynamics
+    window-done faint f len e₅ =
+        let b = basis (dim S) k t′ in
+        let u : k + k - k ≡ k = omega arith in
+        let D = directions-are (dim S) k t′ norms z′ g l′ w r t″ norms′ e′ f in
+        let L = logs-are (dim S) k t′ norms z′ g l′ w r t″ norms′ e′ f in
+        let N = reports-are (dim S) k t′ norms z′ g l′ w r t″ norms′ e′ f in
+        let F : take k faint ≡ zip counted (take k (p .faint)) (b .reports) =
+        ap (take k) (e₅ ∙ rw u) ∙ updated-take counted (p .faint) (take k (drop k norms′)) k (reports-many (dim S) k t′ norms z′ g l′ w r t″ norms′ e′ f) len ∙ rw N in
+        sym (window-ok (dynamics S m h n) n c₀ c₁ (with-basis c₁ b) moved (rw (whole (dim S) k t′ norms z′ g l′ w r t″ norms′ e′ f)) ∙ rw (D, L, N, F))
+
+    pub window-within : (faint : List ℕ) → finite (a .time) ≡ true → a .steps ≤ p .steps + n → faint ≡ updated counted (p .faint) (take (k + k - k) (drop k norms′)) → Within k n 1 0 p (counted-as p a faint)
+    window-within faint τ b e =
+        let q : length (take (k + k - k) (drop k norms′)) ≤ k = rw length-take (omega arith) in
+        record {
+          behind = rw e (updated-drop counted (p .faint) _ k q);
+          counts = rw e (updated-length counted (p .faint) _);
+          totals = refl;
+          clock = τ;
+          steps = b;
+          windows = omega arith;
+          faint = λ i. rw e (counted-more (p .faint) _ i);
+        }
+
+-- ---- what is kept beside it
+
+abbrev pub stopped-as : Progress → Advance → LyapunovError → Progress
+stopped-as p a ε = record { outcome = Refused ε; windows = p .windows; steps = a .steps; time = a .time; faint = p .faint; sums = p .sums }
+
+pub within-same : (k made : ℕ) (p : Progress) (a : Advance) (ε : LyapunovError) → finite (a .time) ≡ true → a .steps ≤ p .steps + made → Within k made 1 0 p (stopped-as p a ε)
+within-same k made p a ε f h = record { behind = refl; counts = refl; totals = refl; clock = f; steps = h; windows = omega arith; faint = λ i. omega arith }

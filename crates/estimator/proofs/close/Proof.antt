@@ -1,0 +1,90 @@
+-- `estimator::close` meets its contract.
+use borrow.Author.Needs.{needs}
+use native.Mathlib.Omega.{arith}
+use mathlib.Core.Path.{sym, _∙_}
+use lib.ListN.{length}
+use lib.Seq.{length-take-le}
+use Rattle.estimator.proofs.Closing.{close-stop, close-done}
+use Rattle.estimator.proofs.close.Statement.{statement}
+use Rattle.estimator.proofs.close.Tie as tie
+
+enum-known-v : tie.Need-enum-known-v
+enum-known-v c = search needs
+
+refused-requires : tie.Need-refused-requires
+refused-requires c κs = search needs
+
+returns : tie.Need-returns
+returns c =
+    let a = c .before .before .before .before .before .before .before .args in
+    close-stop _ (a .k) (a .windows) (a .exponents .now) (a .final-state .now) (a .state .now) (a .p) _ (c .refused .result) (c .before .before .v .given .1) (c .refused .ensures)
+
+enum-told : tie.Need-enum-told
+enum-told c = search needs
+
+as-float-requires : tie.Need-as-float-requires
+as-float-requires c κs = search needs
+
+as-float-requires-2 : tie.Need-as-float-requires-2
+as-float-requires-2 c κs = search needs
+
+slice-relend-prefix-write-rates : tie.Need-slice-relend-prefix-write-rates
+slice-relend-prefix-write-rates c = search needs
+
+slice-aggregate-write-rates : tie.Need-slice-aggregate-write-rates
+slice-aggregate-write-rates c = let a = c .before .before .before .before .before .before .before .before .before .args in sym (length-take-le (a .k) (a .exponents .now) (c .before .before .before .before .before .before .before .before .before .pre .1))
+
+array-share-prefix-sums : tie.Need-array-share-prefix-sums
+array-share-prefix-sums c = search needs
+
+slice-aggregate-write-rates-2 : tie.Need-slice-aggregate-write-rates-2
+slice-aggregate-write-rates-2 c = let a = c .before .before .before .before .before .before .before .before .before .before .args in sym (length-take-le (a .k) (a .p .sums) (omega (arith, c .before .before .before .before .before .before .before .before .before .before .pre .0, c .before .before .before .before .before .before .before .before .before .before .pre .5)))
+
+write-rates-requires : tie.Need-write-rates-requires
+write-rates-requires c κs = let a = c .before .before .before .before .before .before .before .before .before .before .args in length-take-le (a .k) (a .exponents .now) (c .before .before .before .before .before .before .before .before .before .before .pre .1) ∙ sym (length-take-le (a .k) (a .p .sums) (omega (arith, c .before .before .before .before .before .before .before .before .before .before .pre .0, c .before .before .before .before .before .before .before .before .before .before .pre .5)))
+
+slice-relend-prefix-copy-to : tie.Need-slice-relend-prefix-copy-to
+slice-relend-prefix-copy-to c = search needs
+
+slice-aggregate-copy-to : tie.Need-slice-aggregate-copy-to
+slice-aggregate-copy-to c = let a = c .before .before .before .before .before .before .before .before .before .before .before .before .before .before .args in sym (length-take-le (length (a .state .now)) (a .final-state .now) (c .before .before .before .before .before .before .before .before .before .before .before .before .before .before .pre .2))
+
+copy-to-requires : tie.Need-copy-to-requires
+copy-to-requires c κs = let a = c .before .before .before .before .before .before .before .before .before .before .before .before .before .before .args in length-take-le (length (a .state .now)) (a .final-state .now) (c .before .before .before .before .before .before .before .before .before .before .before .before .before .before .pre .2)
+
+same-length : tie.Need-same-length
+same-length c = search needs
+
+same-length-2 : tie.Need-same-length-2
+same-length-2 c = search needs
+
+returns-2 : tie.Need-returns-2
+returns-2 c =
+    let a = c .before .before .before .before .before .before .before .before .before .before .before .before .before .before .before .before .before .before .args in
+    let p = c .before .before .before .before .before .before .before .before .before .before .before .before .before .before .before .before .before .before .pre in
+    let u = c .before .before .before .before .before .before .before .before .before .before .before .before .as-float in
+    let w = c .before .before .before .before .before .before .before .before .before .before .before .as-float2 in
+    close-done (a .h) (a .count) (a .k) (a .windows) (a .exponents .now) (a .final-state .now) (a .state .now) (a .p) (u .result) (w .result) (c .before .before .before .before .before .before .before .write-rates .last .0) (c .before .before .before .copy-to .last .0)
+    (c .before .before .before .before .before .before .before .before .before .before .before .before .before .enum-told .given .1) (u .ensures) (w .ensures) (p .1) (p .2) (p .5) (p .0) (c .before .before .before .before .before .before .before .write-rates .ensures) (c .before .before .before .copy-to .ensures)
+
+pub close-spec : {M : Type 1} → statement M
+close-spec =
+    tie.close
+    (tie.spec
+    enum-known-v
+    refused-requires
+    returns
+    enum-told
+    as-float-requires
+    as-float-requires-2
+    slice-relend-prefix-write-rates
+    slice-aggregate-write-rates
+    array-share-prefix-sums
+    slice-aggregate-write-rates-2
+    write-rates-requires
+    slice-relend-prefix-copy-to
+    slice-aggregate-copy-to
+    copy-to-requires
+    same-length
+    same-length-2
+    returns-2)
