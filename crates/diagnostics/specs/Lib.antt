@@ -1,0 +1,6 @@
+-- What the contracts cite.
+pub mod Sorting
+pub mod Dimension
+pub mod Entropy
+pub mod Rates
+pub mod Marked
