@@ -41,7 +41,20 @@ abbrev pub reported : Outcome → Option Refusal
 reported Accepted = none
 reported (Refused e) = some (refusal e)
 
+-- the number of what is refused, 0 for none, and its place
+abbrev pub number-of : Option Refusal → ℕ
+number-of none = 0
+number-of (some r) = r .number
+
+abbrev pub place-of : Option Refusal → ℕ
+place-of none = 0
+place-of (some r) = r .place
+
 -- what is answered where there is a value to give: the value, or a refusal
 pub data Answer {a} (A : Type a) : Type a where
   value : A → Answer A
   refused : Refusal → Answer A
+
+abbrev pub refusal-in {a} : {A : Type a} → Answer A → Option Refusal
+refusal-in (value x) = none
+refusal-in (refused r) = some r

@@ -6,7 +6,7 @@ use mathlib.Core.Logic.{_↔_, _≢_}
 use mathlib.Core.List.{List}
 use mathlib.Core.Option.{Option, none, some}
 use lib.Ieee.{Float}
-use Rattle.error.specs.Refusal.{refuse, reported}
+use Rattle.error.specs.Refusal.{refuse, reported, number-of}
 use Rattle.error.specs.declared.Refusal.{Refusal}
 use Rattle.system.specs.System.{dim}
 use Rattle.benettin.specs.Run.{RunAnswer, ended, stopped}
@@ -14,7 +14,7 @@ use Rattle.benettin.specs.Estimate.{Input, estimate}
 use Rattle.benettin.specs.LeadingSpectrum.{leading, RefusedFrom, number}
 use Rattle.benettin.specs.Outputs.{Estimated, estimated, outputs, lengths-of}
 use Rattle.benettin.proofs.LeadingSpectrum.{leading-estimate, own-estimate}
-use Rattle.estimator.specs.LeadingOutputs.{Call, left-by, Meets, number-of, AnsweredFrom, left-by-leading, LeadingOutputs}
+use Rattle.estimator.specs.LeadingOutputs.{Call, left-by, Meets, AnsweredFrom, left-by-leading, LeadingOutputs}
 
 refusal-of : RunAnswer → Option Refusal
 refusal-of (ended rows x) = none

@@ -5,7 +5,7 @@ use mathlib.Core.Logic.{_⊎_, _↔_, _≢_}
 use mathlib.Core.List.{List}
 use mathlib.Core.Option.{Option, none, some}
 use lib.Ieee.{Float}
-use Rattle.error.specs.Refusal.{reported}
+use Rattle.error.specs.Refusal.{reported, number-of}
 use Rattle.error.specs.declared.Refusal.{Refusal}
 use Rattle.system.specs.System.{dim}
 use Rattle.benettin.specs.Estimate.{Input, estimate}
@@ -29,11 +29,6 @@ left-by c = left (c .answer) (c .rows-left) (c .exponents-left) (c .final-state-
 -- what the contract says of a call for K rates
 abbrev pub Meets : Input → ℕ → Call → Type 0
 Meets i K c = left-by c ≡ estimated i K (c .rows) (c .exponents) (c .final-state)
-
--- the number that the code answers, 0 for none
-abbrev pub number-of : Option Refusal → ℕ
-number-of none = 0
-number-of (some r) = r .number
 
 -- refused at a direction numbered k or above, as the code answers it
 abbrev pub AnsweredFrom : ℕ → ℕ → Option Refusal → Type 0

@@ -1,13 +1,41 @@
--- An answer as C sees it: a number, 0 for none, a place, and a value that is written only where there is one. Definitions only.
+-- Numbers and slices as C hands them over: a system by its number, and a value that is written only where there is one. Definitions only.
 use Prim.Native.Nat.{ℕ}
+use mathlib.Core.Path.{_≡_}
+use mathlib.Core.Bool.{cond}
+use mathlib.Core.List.{List, [], _∷_}
+use lib.Dec.{eqb}
 use lib.Ieee.{Float}
-use Rattle.error.specs.Refusal.{Answer, value, refused}
-
-abbrev pub number : Answer Float → ℕ
-number (value y) = 0
-number (refused r) = r .number
+use Rattle.error.specs.Refusal.{Answer, value, refused, number-of, place-of}
+use Rattle.system.specs.declared.System.{System}
+use Rattle.system.specs.declared.System.the-variants.{Lorenz, Rossler, VanDerPol, Linear}
+use Rattle.benettin.specs.Outputs.{Estimated}
 
 -- what is left where `old` was
 abbrev pub value-or : Float → Answer Float → Float
 value-or old (value y) = y
 value-or old (refused r) = old
+
+-- a number that names no system names one of dimension 0, which is refused by 7
+abbrev pub system : ℕ → Float → Float → Float → ℕ → System
+system kind p₀ p₁ p₂ d =
+    cond (eqb kind 0) (Lorenz p₀ p₁ p₂)
+    (cond (eqb kind 1) (Rossler p₀ p₁ p₂)
+    (cond (eqb kind 2) (VanDerPol p₀)
+    (cond (eqb kind 3) (Linear d) (Linear 0))))
+
+-- the nineteen counts: place, finished measured windows, steps, and the sixteen faint counts
+abbrev pub counts : Estimated → List ℕ
+counts x = place-of (x .refusal) ∷ x .windows ∷ x .steps ∷ x .faint
+
+-- the two times: final and measured
+abbrev pub times : Estimated → List Float
+times x = x .final-time ∷ x .measured-time ∷ []
+
+-- what a call of a run returns and leaves
+pub record Returns (number : ℕ) (c : List ℕ) (t rows exponents final : List Float) (x : Estimated) : Type 0 where
+  pub number-is : number ≡ number-of (x .refusal)
+  pub counts-are : c ≡ counts x
+  pub times-are : t ≡ times x
+  pub rows-are : rows ≡ x .rows
+  pub exponents-are : exponents ≡ x .exponents
+  pub final-state-is : final ≡ x .final-state

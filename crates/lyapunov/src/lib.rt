@@ -3,10 +3,93 @@
 // Every function is total and hands the promise of the library's own function on: specs/Interface.antt says what a
 // number, a place and a value that is written through a pointer are. A refusal's number is the result, 0 for none.
 ghost use mathlib.Core.Path.{_≡_};
+ghost use mathlib.Core.List.{_∷_};
 ghost use Rattle.sqrt.specs.SquareRoot.{root};
 ghost use Rattle.ln.specs.Logarithm.{logarithm};
 ghost use Rattle.splitmix64.specs.Mix as Mix;
-ghost use Rattle.lyapunov.specs.Interface.{number, value-or};
+ghost use Rattle.error.specs.Refusal.{number-of, place-of, reported, refusal-in};
+ghost use Rattle.gram_schmidt.specs.GramSchmidt.{orthonormalised};
+ghost use Rattle.system.specs.Step.{stepped};
+ghost use Rattle.benettin.specs.Estimate.{configured, input, settings};
+ghost use Rattle.benettin.specs.Outputs.{estimated};
+ghost use Rattle.diagnostics.specs.Rates as Rates;
+ghost use Rattle.lyapunov.specs.Interface as Interface;
+use benettin::BenettinConfig;
+use benettin::Configured;
+use error::Outcome;
+use system::System;
+
+// A system by its number.
+fn system_of(kind: u64, p0: f64, p1: f64, p2: f64, dimension: usize) -> System
+    ensures { λ r. ⌜ r ≡ Interface.system kind p0 p1 p2 dimension ⌝ }
+{
+    if kind == 0 {
+        return System::Lorenz {
+            sigma: p0,
+            rho: p1,
+            beta: p2,
+        };
+    }
+    if kind == 1 {
+        return System::Rossler {
+            a: p0,
+            b: p1,
+            c: p2,
+        };
+    }
+    if kind == 2 {
+        return System::VanDerPol { mu: p0 };
+    }
+    if kind == 3 {
+        return System::Linear(dimension);
+    }
+    System::Linear(0)
+}
+
+// The number of what is refused is the result, and its place goes to `place`.
+fn report(outcome: Outcome, place: &mut u64) -> u64
+    ensures { λ r. ⌜ (r ≡ number-of (reported outcome)) × (now (place .exit) ≡ place-of (reported outcome)) ⌝ }
+{
+    match outcome {
+        Outcome::Accepted => {
+            *place = 0;
+            0
+        }
+        Outcome::Refused(e) => {
+            *place = error::place(e) as u64;
+            error::number(e)
+        }
+    }
+}
+
+// The counts of a run, one after the other.
+fn counts_of(place: u64, windows: u64, steps: u64, faint: [u64; 16]) -> [u64; 19]
+    ensures { λ r. ⌜ r ≡ place ∷ windows ∷ steps ∷ faint ⌝ }
+{
+    let mut counts = [0; 19];
+    counts[0] = place;
+    counts[1] = windows;
+    counts[2] = steps;
+    let mut i = 0;
+    while i < 16 {
+        counts[3 + i] = faint[i];
+        i += 1;
+    }
+    counts
+}
+
+// A rate goes to `out`, which a refusal leaves as it is.
+fn report_rate(rate: diagnostics::Rate, out: &mut f64, place: &mut u64) -> u64
+    ensures { λ r. ⌜ (r ≡ number-of (refusal-in (Rates.answer rate))) × (now (place .exit) ≡ place-of (refusal-in (Rates.answer rate))) × (now (out .exit) ≡ Interface.value-or (now (out .entry)) (Rates.answer rate)) ⌝ }
+{
+    match rate {
+        diagnostics::Rate::Value(x) => {
+            *out = x;
+            report(Outcome::Accepted, place)
+        }
+        diagnostics::Rate::Refused(e) => report(Outcome::Refused(e), place),
+    }
+}
 
 #[no_mangle]
 pub extern "C" fn lyapunov_sqrt(x: f64) -> f64
@@ -18,7 +101,7 @@ pub extern "C" fn lyapunov_sqrt(x: f64) -> f64
 // The logarithm goes to out, which a refusal leaves as it is.
 #[no_mangle]
 pub extern "C" fn lyapunov_ln(x: f64, out: &mut f64) -> u64
-    ensures { λ r. ⌜ (r ≡ number (logarithm x)) × (now (out .exit) ≡ value-or (now (out .entry)) (logarithm x)) ⌝ }
+    ensures { λ r. ⌜ (r ≡ number-of (refusal-in (logarithm x))) × (now (out .exit) ≡ Interface.value-or (now (out .entry)) (logarithm x)) ⌝ }
 {
     match ln::ln(x) {
         ln::Logarithm::Value(y) => {
@@ -51,4 +134,144 @@ pub extern "C" fn lyapunov_splitmix64_symmetric_unit(value: u64) -> f64
     ensures { λ r. ⌜ r ≡ Mix.unit value ⌝ }
 {
     splitmix64::unit(value)
+}
+
+#[no_mangle]
+pub extern "C" fn lyapunov_modified_gram_schmidt(
+    tangents: &mut [f64],
+    dimension: usize,
+    numbers: &mut [f64],
+    place: &mut u64,
+) -> u64
+    ensures { λ r. ⌜ (r ≡ number-of (orthonormalised (now (tangents .entry)) dimension (now (numbers .entry)) .refusal))
+        × (now (place .exit) ≡ place-of (orthonormalised (now (tangents .entry)) dimension (now (numbers .entry)) .refusal))
+        × (now (tangents .exit) ≡ orthonormalised (now (tangents .entry)) dimension (now (numbers .entry)) .tangents)
+        × (now (numbers .exit) ≡ orthonormalised (now (tangents .entry)) dimension (now (numbers .entry)) .numbers) ⌝ }
+{
+    let outcome = gram_schmidt::modified_gram_schmidt(tangents, dimension, numbers);
+    report(outcome, place)
+}
+
+#[no_mangle]
+pub extern "C" fn lyapunov_step(
+    kind: u64,
+    p0: f64,
+    p1: f64,
+    p2: f64,
+    dimension: usize,
+    matrix: &[f64],
+    time: f64,
+    state: &mut [f64],
+    tangents: &mut [f64],
+    count: usize,
+    step_size: f64,
+    place: &mut u64,
+) -> u64
+    ensures { λ r. ⌜ (r ≡ number-of (stepped (Interface.system kind p0 p1 p2 dimension) (now (matrix .entry)) time (now (state .entry)) (now (tangents .entry)) count «step_size» .refusal))
+        × (now (place .exit) ≡ place-of (stepped (Interface.system kind p0 p1 p2 dimension) (now (matrix .entry)) time (now (state .entry)) (now (tangents .entry)) count «step_size» .refusal))
+        × (now (state .exit) ≡ stepped (Interface.system kind p0 p1 p2 dimension) (now (matrix .entry)) time (now (state .entry)) (now (tangents .entry)) count «step_size» .state)
+        × (now (tangents .exit) ≡ stepped (Interface.system kind p0 p1 p2 dimension) (now (matrix .entry)) time (now (state .entry)) (now (tangents .entry)) count «step_size» .tangents) ⌝ }
+{
+    let system = system_of(kind, p0, p1, p2, dimension);
+    let outcome = system::rk4::step(system, matrix, time, state, tangents, count, step_size);
+    report(outcome, place)
+}
+
+// Whether settings with no warm-up windows pass the tests 1 to 5.
+#[no_mangle]
+pub extern "C" fn lyapunov_build_config(
+    top_k: usize,
+    step_size: f64,
+    steps_per_window: u64,
+    windows: u64,
+    place: &mut u64,
+) -> u64
+    ensures { λ r. ⌜ (r ≡ number-of (refusal-in (configured «top_k» «step_size» «steps_per_window» windows)))
+        × (now (place .exit) ≡ place-of (refusal-in (configured «top_k» «step_size» «steps_per_window» windows))) ⌝ }
+{
+    match BenettinConfig::new(top_k, step_size, steps_per_window, windows) {
+        Configured::Config(_) => report(Outcome::Accepted, place),
+        Configured::Refused(e) => report(Outcome::Refused(e), place),
+    }
+}
+
+// A run. counts takes the place, the finished measured windows, the steps and the sixteen faint counts; times the final and the measured time.
+#[no_mangle]
+pub extern "C" fn lyapunov_estimate_spectrum_at(
+    kind: u64,
+    p0: f64,
+    p1: f64,
+    p2: f64,
+    dimension: usize,
+    matrix: &[f64],
+    time: f64,
+    state: &[f64],
+    top_k: usize,
+    step_size: f64,
+    steps_per_window: u64,
+    windows: u64,
+    transient_windows: u64,
+    seed: u64,
+    rows: &mut [f64],
+    exponents: &mut [f64],
+    final_state: &mut [f64],
+    counts: &mut [u64; 19],
+    times: &mut [f64; 2],
+) -> u64
+    ensures { λ r. ⌜ Interface.Returns r (now (counts .exit)) (now (times .exit)) (now (rows .exit)) (now (exponents .exit)) (now («final_state» .exit))
+        (estimated (input (Interface.system kind p0 p1 p2 dimension) (now (matrix .entry)) time (now (state .entry)) (settings «top_k» «step_size» «steps_per_window» windows «transient_windows» seed))
+        «top_k» (now (rows .entry)) (now (exponents .entry)) (now («final_state» .entry))) ⌝ }
+{
+    let system = system_of(kind, p0, p1, p2, dimension);
+    let config = BenettinConfig {
+        top_k,
+        step_size,
+        steps_per_window,
+        windows,
+        transient_windows,
+        seed,
+    };
+    let answer = estimator::estimate::estimate_spectrum_at(
+        system,
+        matrix,
+        time,
+        state,
+        config,
+        rows,
+        exponents,
+        final_state,
+    );
+    *times = [answer.final_time, answer.measured_time];
+    let mut place = 0;
+    let outcome = answer.outcome;
+    let number = report(outcome, &mut place);
+    let faint = answer.faint;
+    *counts = counts_of(place, answer.windows, answer.steps, faint);
+    number
+}
+
+// The dimension goes to `out`, which a refusal leaves as it is.
+#[no_mangle]
+pub extern "C" fn lyapunov_kaplan_yorke_dimension(
+    exponents: &[f64],
+    out: &mut f64,
+    place: &mut u64,
+) -> u64
+    ensures { λ r. ⌜ (r ≡ number-of (refusal-in (Rates.dimension (now (exponents .entry))))) × (now (place .exit) ≡ place-of (refusal-in (Rates.dimension (now (exponents .entry)))))
+        × (now (out .exit) ≡ Interface.value-or (now (out .entry)) (Rates.dimension (now (exponents .entry)))) ⌝ }
+{
+    report_rate(diagnostics::kaplan_yorke_dimension(exponents), out, place)
+}
+
+// The entropy goes to `out`, which a refusal leaves as it is.
+#[no_mangle]
+pub extern "C" fn lyapunov_kolmogorov_sinai_entropy(
+    exponents: &[f64],
+    out: &mut f64,
+    place: &mut u64,
+) -> u64
+    ensures { λ r. ⌜ (r ≡ number-of (refusal-in (Rates.entropy (now (exponents .entry))))) × (now (place .exit) ≡ place-of (refusal-in (Rates.entropy (now (exponents .entry)))))
+        × (now (out .exit) ≡ Interface.value-or (now (out .entry)) (Rates.entropy (now (exponents .entry)))) ⌝ }
+{
+    report_rate(diagnostics::kolmogorov_sinai_entropy(exponents), out, place)
 }
