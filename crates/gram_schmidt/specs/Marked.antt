@@ -25,7 +25,11 @@ independent = orthonormalised (two ∷ zero⁺ ∷ two ∷ three ∷ []) 2 zeros
 abbrev parallel : Left
 parallel = orthonormalised (one ∷ zero⁺ ∷ two ∷ zero⁺ ∷ []) 2 zeros
 
-pub marked : (independent .refusal ≡ none) × (independent .tangents ≡ one ∷ zero⁺ ∷ zero⁺ ∷ one ∷ [])
+abbrev pub Marked : Type 0
+Marked =
+    (independent .refusal ≡ none) × (independent .tangents ≡ one ∷ zero⁺ ∷ zero⁺ ∷ one ∷ [])
     × (parallel .refusal ≡ some (refuse 14 1)) × (parallel .tangents ≡ one ∷ zero⁺ ∷ zero⁺ ∷ zero⁺ ∷ []) × (parallel .numbers ≡ zero⁺ ∷ zero⁺ ∷ one ∷ zero⁺ ∷ [])
+
+pub marked : Marked
 unfolding orthonormalised root log toBits add sub mul div round le lt eq ofInt ofBits
 marked = (refl, refl, refl, refl, refl)

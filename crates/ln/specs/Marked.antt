@@ -4,6 +4,10 @@ use lib.Ieee.{binary64, toBits, ofInt, add, sub, mul, div, ofBits}
 use Rattle.floats.specs.Arithmetic.{zero⁺, one, two}
 use Rattle.ln.specs.Logarithm.{log}
 
-pub marked : (log one ≡ zero⁺) × (toBits binary64 (log two) ≡ 0x3fe62e42fefa39ef)
+abbrev pub Marked : Type 0
+Marked =
+    (log one ≡ zero⁺) × (toBits binary64 (log two) ≡ 0x3fe62e42fefa39ef)
+
+pub marked : Marked
 unfolding log ofBits toBits ofInt add sub mul div
 marked = (refl, refl)

@@ -1,2 +1,3 @@
--- What the contracts cite.
+-- What the contracts cite, and document 01's marked examples of all crates.
 pub mod Interface
+pub mod Marked

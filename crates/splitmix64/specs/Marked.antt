@@ -6,7 +6,11 @@ use lib.IntN.{pos, negsuc}
 use lib.Ieee.{fin, round}
 use Rattle.splitmix64.specs.Mix.{mix, next-state, unit}
 
-pub marked : (unit 0 ≡ fin true 1 (pos 0)) × (unit (2 ^ 52 * 2 ^ 11) ≡ fin false 0 (pos 0)) × (unit ((2 ^ 53 - 1) * 2 ^ 11) ≡ fin false (2 ^ 52 - 1) (negsuc 51))
+abbrev pub Marked : Type 0
+Marked =
+    (unit 0 ≡ fin true 1 (pos 0)) × (unit (2 ^ 52 * 2 ^ 11) ≡ fin false 0 (pos 0)) × (unit ((2 ^ 53 - 1) * 2 ^ 11) ≡ fin false (2 ^ 52 - 1) (negsuc 51))
+
+pub marked : Marked
 unfolding unit round
 marked = (refl, refl, refl)
 

@@ -5,8 +5,12 @@ use lib.IntN.{pos, negsuc}
 use lib.Ieee.{fin, binary64, toBits}
 use Rattle.sqrt.specs.SquareRoot.{root}
 
-pub marked : (root (fin false 1 (pos 2)) ≡ fin false 1 (pos 1))
+abbrev pub Marked : Type 0
+Marked =
+    (root (fin false 1 (pos 2)) ≡ fin false 1 (pos 1))
     × (toBits binary64 (root (fin false 1 (pos 1))) ≡ 0x3ff6a09e667f3bcd)
     × (root (fin false 1 (negsuc 1073)) ≡ fin false 1 (negsuc 536))
+
+pub marked : Marked
 unfolding root toBits
 marked = (refl, refl, refl)

@@ -13,7 +13,11 @@ use Rattle.system.specs.Step.{advance, advanced, stepped}
 use Rattle.system.specs.declared.System.the-variants.{Lorenz, Linear}
 
 -- Linear(1), matrix 1, h 6, state 1 steps to 115
-pub marked : stepped (Linear 1) (one ∷ []) zero⁺ (one ∷ []) [] 0 six ≡ record { refusal = none; state = bits 0x405c_c000_0000_0000 ∷ []; tangents = [] }
+abbrev pub Marked : Type 0
+Marked =
+    stepped (Linear 1) (one ∷ []) zero⁺ (one ∷ []) [] 0 six ≡ record { refusal = none; state = bits 0x405c_c000_0000_0000 ∷ []; tangents = [] }
+
+pub marked : Marked
 unfolding stepped advanced advance first-failing first-not-finite field times chunks concat dot-from advance-by stage-points derivatives rk4 from-last combine-stage rk4-update zip add mul div lt ofBits
 marked = refl
 
