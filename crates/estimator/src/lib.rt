@@ -63,15 +63,20 @@ fn advance_window(
     let mut steps = made;
     let mut i: u64 = 0;
     while i < count {
-        match system::rk4::step(system, matrix, time, state, tangents, k, h) {
-            Outcome::Refused(e) => {
-                return Advance {
-                    outcome: Outcome::Refused(e),
-                    time,
-                    steps,
-                };
-            }
-            Outcome::Accepted => {}
+        if let Outcome::Refused(e) = system::rk4::step(
+            system,
+            matrix,
+            time,
+            state,
+            tangents,
+            k,
+            h,
+        ) {
+            return Advance {
+                outcome: Outcome::Refused(e),
+                time,
+                steps,
+            };
         }
         let next = time + h;
         if floats::is_finite(next) {

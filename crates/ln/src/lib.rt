@@ -22,20 +22,19 @@ fn series(m: f64, k: f64) -> f64
     let s = f / (2.0 + f);
     let z2 = s * s;
     let w = z2 * z2;
-    let t1 = w
-        * (f64::from_bits(0x3fd999999997fa04)
-            + w * (f64::from_bits(0x3fcc71c51d8e78af) + w * f64::from_bits(0x3fc39a09d078c69f)));
-    let t2 = z2
-        * (f64::from_bits(0x3fe5555555555593)
-            + w
-                * (f64::from_bits(0x3fd2492494229359)
-                    + w
-                        * (f64::from_bits(0x3fc7466496cb03de)
-                            + w * f64::from_bits(0x3fc2f112df3e5244))));
+    let l1 = f64::from_bits(0x3fe5555555555593);
+    let l2 = f64::from_bits(0x3fd999999997fa04);
+    let l3 = f64::from_bits(0x3fd2492494229359);
+    let l4 = f64::from_bits(0x3fcc71c51d8e78af);
+    let l5 = f64::from_bits(0x3fc7466496cb03de);
+    let l6 = f64::from_bits(0x3fc39a09d078c69f);
+    let l7 = f64::from_bits(0x3fc2f112df3e5244);
+    let t1 = w * (l2 + w * (l4 + w * l6));
+    let t2 = z2 * (l1 + w * (l3 + w * (l5 + w * l7)));
     let r = t2 + t1;
-    s * (q + r) + k * f64::from_bits(0x3dea39ef35793c76) - q
-        + f
-        + k * f64::from_bits(0x3fe62e42fee00000)
+    let high = f64::from_bits(0x3fe62e42fee00000);
+    let low = f64::from_bits(0x3dea39ef35793c76);
+    s * (q + r) + k * low - q + f + k * high
 }
 
 fn normal_ln(z: f64) -> f64

@@ -5,41 +5,41 @@ use Rattle.ln.specs.Logarithm.{series}
 use Rattle.ln.proofs.series.Statement.{statement}
 use Rattle.ln.proofs.series.Tie as tie
 
-float-from-bits-t1 : tie.Need-float-from-bits-t1
+float-from-bits-l1 : tie.Need-float-from-bits-l1
 unfolding nanBits
-float-from-bits-t1 c = tt
+float-from-bits-l1 c = tt
 
-float-from-bits-t1-2 : tie.Need-float-from-bits-t1-2
+float-from-bits-l2 : tie.Need-float-from-bits-l2
 unfolding nanBits
-float-from-bits-t1-2 c = tt
+float-from-bits-l2 c = tt
 
-float-from-bits-t1-3 : tie.Need-float-from-bits-t1-3
+float-from-bits-l3 : tie.Need-float-from-bits-l3
 unfolding nanBits
-float-from-bits-t1-3 c = tt
+float-from-bits-l3 c = tt
 
-float-from-bits-t2 : tie.Need-float-from-bits-t2
+float-from-bits-l4 : tie.Need-float-from-bits-l4
 unfolding nanBits
-float-from-bits-t2 c = tt
+float-from-bits-l4 c = tt
 
-float-from-bits-t2-2 : tie.Need-float-from-bits-t2-2
+float-from-bits-l5 : tie.Need-float-from-bits-l5
 unfolding nanBits
-float-from-bits-t2-2 c = tt
+float-from-bits-l5 c = tt
 
-float-from-bits-t2-3 : tie.Need-float-from-bits-t2-3
+float-from-bits-l6 : tie.Need-float-from-bits-l6
 unfolding nanBits
-float-from-bits-t2-3 c = tt
+float-from-bits-l6 c = tt
 
-float-from-bits-t2-4 : tie.Need-float-from-bits-t2-4
+float-from-bits-l7 : tie.Need-float-from-bits-l7
 unfolding nanBits
-float-from-bits-t2-4 c = tt
+float-from-bits-l7 c = tt
 
-float-from-bits-result : tie.Need-float-from-bits-result
+float-from-bits-high : tie.Need-float-from-bits-high
 unfolding nanBits
-float-from-bits-result c = tt
+float-from-bits-high c = tt
 
-float-from-bits-result-2 : tie.Need-float-from-bits-result-2
+float-from-bits-low : tie.Need-float-from-bits-low
 unfolding nanBits
-float-from-bits-result-2 c = tt
+float-from-bits-low c = tt
 
 returns : tie.Need-returns
 unfolding series
@@ -49,13 +49,13 @@ pub series-spec : {M : Type 1} → statement M
 series-spec =
     tie.close
     (tie.spec
-    float-from-bits-t1
-    float-from-bits-t1-2
-    float-from-bits-t1-3
-    float-from-bits-t2
-    float-from-bits-t2-2
-    float-from-bits-t2-3
-    float-from-bits-t2-4
-    float-from-bits-result
-    float-from-bits-result-2
+    float-from-bits-l1
+    float-from-bits-l2
+    float-from-bits-l3
+    float-from-bits-l4
+    float-from-bits-l5
+    float-from-bits-l6
+    float-from-bits-l7
+    float-from-bits-high
+    float-from-bits-low
     returns)
