@@ -11,11 +11,18 @@ use Rattle.floats.specs.Vector.{chunks, concat}
 use Rattle.system.specs.System.{dim, field, tangent}
 use Rattle.system.specs.Stepper.{combine-stage, rk4, rk4-update, advance-by}
 use Rattle.system.specs.Step.{advance, advanced}
-use Rattle.system.specs.Stages.{in16, moved, alike, along, tested-finite}
+use Rattle.system.specs.Stages.{in16, moved, alike, along, tested-finite, Evaluable, NotLinear}
 use Rattle.system.specs.declared.System.{System}
+use Rattle.system.specs.declared.System.the-variants.{Lorenz, Rossler, VanDerPol, Linear}
 use Rattle.system.proofs.Few.{combine-front, update-few, field-front, tangent-front}
 use Rattle.system.proofs.Padding.{in16-length, in16-take}
 use Rattle.system.proofs.Stage.{update-length}
+
+pub evaluable-of : (S : System) (m : List Float) → NotLinear S → Evaluable S m
+evaluable-of (Lorenz σ ρ β) m e = tt
+evaluable-of (Rossler a b c) m e = tt
+evaluable-of (VanDerPol μ) m e = tt
+evaluable-of (Linear d) m e = absurd e
 
 pub moved-length : (h : Float) (f₁ f₂ f₃ f₄ : List Float → List Float) (v : List Float) → length (moved h f₁ f₂ f₃ f₄ v) ≡ length v
 unfolding moved

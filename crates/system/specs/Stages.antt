@@ -24,6 +24,13 @@ Evaluable (Rossler a b c) m = Unit {0}
 Evaluable (VanDerPol μ) m = Unit {0}
 Evaluable (Linear d) m = (length m ≡ d * d) × (d ≤ 16)
 
+-- a system whose dimension is fixed: it has no matrix
+abbrev pub NotLinear : System → Type 0
+NotLinear (Lorenz σ ρ β) = Unit {0}
+NotLinear (Rossler a b c) = Unit {0}
+NotLinear (VanDerPol μ) = Unit {0}
+NotLinear (Linear d) = ⊥
+
 -- the classical step of v, where the derivative map of each of the four stages is given
 unfoldable pub moved : Float → (List Float → List Float) → (List Float → List Float) → (List Float → List Float) → (List Float → List Float) → List Float → List Float
 unfolding combine-stage rk4-update

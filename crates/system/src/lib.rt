@@ -8,13 +8,14 @@ pub mod rk4;
 
 ghost use mathlib.Core.Path.{_≡_};
 ghost use Prim.Native.Nat.{_+_, _*_, _≤_};
-ghost use mathlib.Core.List.{[], _++_};
+ghost use mathlib.Core.List.{List, [], _++_};
 ghost use lib.ListN.{length, take, drop};
+ghost use lib.Ieee.{Float};
 ghost use Rattle.floats.specs.Arithmetic.{zero⁺};
 ghost use Rattle.floats.specs.Vector.{dot-from, chunks};
 ghost use Rattle.system.specs.System.{dim, field, tangent, times};
 ghost use Rattle.system.specs.System as Spec;
-ghost use Rattle.system.specs.Stages.{in16, FourRows, Evaluable};
+ghost use Rattle.system.specs.Stages.{in16, FourRows, NotLinear};
 
 // Each choice holds its own parameters. The matrix of a linear system is lent beside it.
 pub enum System {
@@ -217,43 +218,15 @@ fn linear_into(matrix: &[f64], d: usize, x: &[f64; 16], out: &mut [f64; 16])
     }
 }
 
-// The same as an array, with zeros behind the d entries.
-fn linear_product(matrix: &[f64], d: usize, x: [f64; 16]) -> [f64; 16]
-    requires { ⌜ (length (now matrix) ≡ d * d) × (d ≤ 16) ⌝ }
-    ensures { λ r. ⌜ r ≡ in16 (times (chunks d d (now (matrix .entry))) x) ⌝ }
-{
-    let mut out = [0.0; 16];
-    linear_into(matrix, d, &x, &mut out);
-    out
-}
-
-// The vector field at s, with zeros behind its entries.
-fn vector_field(system: System, matrix: &[f64], s: &[f64; 16]) -> [f64; 16]
-    requires { ⌜ Evaluable system (now matrix) ⌝ }
-    ensures { λ r. ⌜ r ≡ in16 (field system (now (matrix .entry)) (now (s .entry))) ⌝ }
+// The vector field of a system that is not linear, with zeros behind its entries. The matrix of a linear system is read elsewhere.
+fn vector_field(system: System, s: &[f64; 16]) -> [f64; 16]
+    requires { ⌜ NotLinear system ⌝ }
+    ensures { λ r. ⌜ ((m : List Float) → r ≡ in16 (field system m (now (s .entry)))) ⌝ }
 {
     match system {
         System::Lorenz { sigma, rho, beta } => lorenz_field(sigma, rho, beta, s),
         System::Rossler { a, b, c } => rossler_field(a, b, c, s),
         System::VanDerPol { mu } => van_der_pol_field(mu, s),
-        System::Linear(d) => linear_product(matrix, d, *s),
-    }
-}
-
-// The tangent map at s of the direction t, with zeros behind its entries.
-fn jacobian_vector_product(
-    system: System,
-    matrix: &[f64],
-    s: &[f64; 16],
-    t: &[f64; 16],
-) -> [f64; 16]
-    requires { ⌜ Evaluable system (now matrix) ⌝ }
-    ensures { λ r. ⌜ r ≡ in16 (tangent system (now (matrix .entry)) (now (s .entry)) (now (t .entry))) ⌝ }
-{
-    match system {
-        System::Lorenz { sigma, rho, beta } => lorenz_tangent(sigma, rho, beta, s, t),
-        System::Rossler { a, b: _, c } => rossler_tangent(a, c, s, t),
-        System::VanDerPol { mu } => van_der_pol_tangent(mu, s, t),
-        System::Linear(d) => linear_product(matrix, d, *t),
+        System::Linear(_) => [0.0; 16],
     }
 }

@@ -18,7 +18,7 @@ ghost use Rattle.error.specs.Tests.{first-failing};
 ghost use Rattle.floats.specs.Vector.{chunks, concat};
 ghost use Rattle.system.specs.System.{dim, times};
 ghost use Rattle.system.specs.Stepper.{combine-stage, rk4-update};
-ghost use Rattle.system.specs.Stages.{in16, Evaluable, alike, along, tested-finite};
+ghost use Rattle.system.specs.Stages.{in16, Evaluable, NotLinear, alike, along, tested-finite};
 ghost use Rattle.system.specs.Step.{step-tests, advanced, stepped, left};
 
 // A slice of at most 16 floats as an array, with zeros behind them.
@@ -124,7 +124,85 @@ fn zero_padded_small(s: &[f64]) -> [f64; 16]
     zero_padded(&s[..2])
 }
 
-// One direction, with the stage points x1 to x4 of the state, in dimension 2 or 3.
+// One direction of a Lorenz system, with the stage points x1 to x4 of the state.
+fn advance_lorenz_tangent(
+    sigma: f64,
+    rho: f64,
+    beta: f64,
+    x1: &[f64; 16],
+    x2: &[f64; 16],
+    x3: &[f64; 16],
+    x4: &[f64; 16],
+    t: &mut [f64],
+    h: f64,
+)
+    requires { ⌜ length (now t) ≡ 3 ⌝ }
+    ensures { λ _. ⌜ now (t .exit) ≡ along (System.Lorenz sigma rho beta) [] h (now (x1 .entry)) (now (x2 .entry)) (now (x3 .entry)) (now (x4 .entry)) (now (t .entry)) ⌝ }
+{
+    let half = 0.5 * h;
+    let t1 = zero_padded(&t[..3]);
+    let k1 = crate::lorenz_tangent(sigma, rho, beta, x1, &t1);
+    let t2 = combine_stage(&t1, &k1, half, 3);
+    let k2 = crate::lorenz_tangent(sigma, rho, beta, x2, &t2);
+    let t3 = combine_stage(&t1, &k2, half, 3);
+    let k3 = crate::lorenz_tangent(sigma, rho, beta, x3, &t3);
+    let t4 = combine_stage(&t1, &k3, h, 3);
+    let k4 = crate::lorenz_tangent(sigma, rho, beta, x4, &t4);
+    rk4_update(&mut t[..3], k1, k2, k3, k4, h);
+}
+
+// One direction of a Rössler system, with the stage points x1 to x4 of the state.
+fn advance_rossler_tangent(
+    a: f64,
+    c: f64,
+    x1: &[f64; 16],
+    x2: &[f64; 16],
+    x3: &[f64; 16],
+    x4: &[f64; 16],
+    t: &mut [f64],
+    h: f64,
+)
+    requires { ⌜ length (now t) ≡ 3 ⌝ }
+    ensures { λ _. ⌜ now (t .exit) ≡ along (System.Rossler a c c) [] h (now (x1 .entry)) (now (x2 .entry)) (now (x3 .entry)) (now (x4 .entry)) (now (t .entry)) ⌝ }
+{
+    let half = 0.5 * h;
+    let t1 = zero_padded(&t[..3]);
+    let k1 = crate::rossler_tangent(a, c, x1, &t1);
+    let t2 = combine_stage(&t1, &k1, half, 3);
+    let k2 = crate::rossler_tangent(a, c, x2, &t2);
+    let t3 = combine_stage(&t1, &k2, half, 3);
+    let k3 = crate::rossler_tangent(a, c, x3, &t3);
+    let t4 = combine_stage(&t1, &k3, h, 3);
+    let k4 = crate::rossler_tangent(a, c, x4, &t4);
+    rk4_update(&mut t[..3], k1, k2, k3, k4, h);
+}
+
+// One direction of a van der Pol oscillator, with the stage points x1 to x4 of the state.
+fn advance_van_der_pol_tangent(
+    mu: f64,
+    x1: &[f64; 16],
+    x2: &[f64; 16],
+    x3: &[f64; 16],
+    x4: &[f64; 16],
+    t: &mut [f64],
+    h: f64,
+)
+    requires { ⌜ length (now t) ≡ 2 ⌝ }
+    ensures { λ _. ⌜ now (t .exit) ≡ along (System.VanDerPol mu) [] h (now (x1 .entry)) (now (x2 .entry)) (now (x3 .entry)) (now (x4 .entry)) (now (t .entry)) ⌝ }
+{
+    let half = 0.5 * h;
+    let t1 = zero_padded(&t[..2]);
+    let k1 = crate::van_der_pol_tangent(mu, x1, &t1);
+    let t2 = combine_stage(&t1, &k1, half, 3);
+    let k2 = crate::van_der_pol_tangent(mu, x2, &t2);
+    let t3 = combine_stage(&t1, &k2, half, 3);
+    let k3 = crate::van_der_pol_tangent(mu, x3, &t3);
+    let t4 = combine_stage(&t1, &k3, h, 3);
+    let k4 = crate::van_der_pol_tangent(mu, x4, &t4);
+    rk4_update(&mut t[..2], k1, k2, k3, k4, h);
+}
+
+// One direction. The system is matched here and not at each stage, so that the stages are straight code.
 fn advance_tangent(
     system: System,
     matrix: &[f64],
@@ -135,22 +213,22 @@ fn advance_tangent(
     t: &mut [f64],
     h: f64,
 )
-    requires { ⌜ Evaluable system (now matrix) × (dim system ≡ length (now t)) × (2 ≤ length (now t)) × (length (now t) ≤ 3) ⌝ }
+    requires { ⌜ Evaluable system (now matrix) × (dim system ≡ length (now t)) ⌝ }
     ensures { λ _. ⌜ now (t .exit) ≡ along system (now (matrix .entry)) h (now (x1 .entry)) (now (x2 .entry)) (now (x3 .entry)) (now (x4 .entry)) (now (t .entry)) ⌝ }
 {
-    let half = 0.5 * h;
-    let t1 = zero_padded_small(t);
-    let k1 = crate::jacobian_vector_product(system, matrix, x1, &t1);
-    let t2 = combine_stage(&t1, &k1, half, 3);
-    let k2 = crate::jacobian_vector_product(system, matrix, x2, &t2);
-    let t3 = combine_stage(&t1, &k2, half, 3);
-    let k3 = crate::jacobian_vector_product(system, matrix, x3, &t3);
-    let t4 = combine_stage(&t1, &k3, h, 3);
-    let k4 = crate::jacobian_vector_product(system, matrix, x4, &t4);
-    if t.len() == 3 {
-        rk4_update(&mut t[..3], k1, k2, k3, k4, h);
-    } else {
-        rk4_update(&mut t[..2], k1, k2, k3, k4, h);
+    match system {
+        System::Lorenz { sigma, rho, beta } => {
+            advance_lorenz_tangent(sigma, rho, beta, x1, x2, x3, x4, t, h);
+        }
+        System::Rossler { a, b: _, c } => {
+            advance_rossler_tangent(a, c, x1, x2, x3, x4, t, h);
+        }
+        System::VanDerPol { mu } => {
+            advance_van_der_pol_tangent(mu, x1, x2, x3, x4, t, h);
+        }
+        System::Linear(d) => {
+            advance_linear(matrix, d, t, h);
+        }
     }
 }
 
@@ -188,19 +266,19 @@ fn advance_small(
     count: usize,
     h: f64,
 )
-    requires { ⌜ Evaluable system (now matrix) × (dim system ≡ length (now state)) × (2 ≤ length (now state)) × (length (now state) ≤ 3) × (length (now tangents) ≡ count * length (now state)) ⌝ }
+    requires { ⌜ NotLinear system × (dim system ≡ length (now state)) × (2 ≤ length (now state)) × (length (now state) ≤ 3) × (length (now tangents) ≡ count * length (now state)) ⌝ }
     ensures { λ _. ⌜ tested-finite (now (state .exit)) (now (tangents .exit)) ≡ advanced system (now (matrix .entry)) (now (state .entry)) (now (tangents .entry)) count h ⌝ }
 {
     let half = 0.5 * h;
     let d = state.len();
     let x1 = zero_padded_small(state);
-    let k1 = crate::vector_field(system, matrix, &x1);
+    let k1 = crate::vector_field(system, &x1);
     let x2 = combine_stage(&x1, &k1, half, 3);
-    let k2 = crate::vector_field(system, matrix, &x2);
+    let k2 = crate::vector_field(system, &x2);
     let x3 = combine_stage(&x1, &k2, half, 3);
-    let k3 = crate::vector_field(system, matrix, &x3);
+    let k3 = crate::vector_field(system, &x3);
     let x4 = combine_stage(&x1, &k3, h, 3);
-    let k4 = crate::vector_field(system, matrix, &x4);
+    let k4 = crate::vector_field(system, &x4);
     advance_tangents(system, matrix, &x1, &x2, &x3, &x4, tangents, d, count, h);
     if d == 3 {
         rk4_update(&mut state[..3], k1, k2, k3, k4, h);

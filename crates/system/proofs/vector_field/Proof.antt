@@ -22,27 +22,23 @@ enum-known-system-3 c = search needs
 van-der-pol-field-requires : tie.Need-van-der-pol-field-requires
 van-der-pol-field-requires c κs = search needs
 
-enum-known-system-4 : tie.Need-enum-known-system-4
-enum-known-system-4 c = search needs
-
-linear-product-requires : tie.Need-linear-product-requires
-linear-product-requires c κs = rw (c .before .before .system4 .given .1) at (c .before .before .before .before .before .pre)
+enum-told : tie.Need-enum-told
+enum-told c = search needs
 
 returns : tie.Need-returns
 unfolding field
-returns c = rw (c .before .before .system .given .1) (c .lorenz-field .ensures)
+returns c m = rw (c .before .before .system .given .1) (c .lorenz-field .ensures)
 
 returns-2 : tie.Need-returns-2
 unfolding field
-returns-2 c = rw (c .before .before .system2 .given .1) (c .rossler-field .ensures)
+returns-2 c m = rw (c .before .before .system2 .given .1) (c .rossler-field .ensures)
 
 returns-3 : tie.Need-returns-3
 unfolding field
-returns-3 c = rw (c .before .before .system3 .given .1) (c .van-der-pol-field .ensures)
+returns-3 c m = rw (c .before .before .system3 .given .1) (c .van-der-pol-field .ensures)
 
 returns-4 : tie.Need-returns-4
-unfolding field
-returns-4 c = rw (c .before .before .before .system4 .given .1) (c .linear-product .ensures)
+returns-4 c m = absurd (rw (c .enum-told .given .1) at (c .before .before .pre))
 
 pub vector-field-spec : {M : Type 1} → statement M
 vector-field-spec =
@@ -54,8 +50,7 @@ vector-field-spec =
     rossler-field-requires
     enum-known-system-3
     van-der-pol-field-requires
-    enum-known-system-4
-    linear-product-requires
+    enum-told
     returns
     returns-2
     returns-3

@@ -4,7 +4,7 @@ use mathlib.Core.Path.{sym}
 use borrow.Author.Needs.{needs}
 use lib.Seq.{length-take-le}
 use lib.Ieee.{ofBits}
-use Rattle.system.proofs.Moves.{small-step}
+use Rattle.system.proofs.Moves.{small-step, evaluable-of}
 use Rattle.system.proofs.rk4.advance_small.Statement.{statement}
 use Rattle.system.proofs.rk4.advance_small.Tie as tie
 
@@ -33,7 +33,7 @@ vector-field-requires-4 : tie.Need-vector-field-requires-4
 vector-field-requires-4 c κs = c .before .before .before .before .before .before .before .before .before .before .before .before .before .before .before .before .before .before .before .before .before .pre .0
 
 advance-tangents-requires : tie.Need-advance-tangents-requires
-advance-tangents-requires c κs = c .before .before .before .before .before .before .before .before .before .before .before .before .before .before .before .before .before .before .before .before .before .before .before .before .before .before .before .pre
+advance-tangents-requires c κs = let s = c .before .before .before .before .before .before .before .before .before .before .before .before .before .before .before .before .before .before .before .before .before .before .before .before .before .before .before in (evaluable-of (s .args .system) (s .args .matrix .now) (s .pre .0), s .pre .1, s .pre .2, s .pre .3, s .pre .4)
 
 slice-relend-prefix-rk4-update : tie.Need-slice-relend-prefix-rk4-update
 slice-relend-prefix-rk4-update c = search needs
@@ -76,13 +76,13 @@ returns c =
     let ar = s .args in
     small-step (ar .system) (ar .matrix .now) (ar .h) (ar .state .now) (ar .tangents .now) (ar .count) _ _ _ _ _ _ _ _ _ _ 3 (s .pre .1) (s .pre .3) (s .pre .3)
     (x₁ .zero-padded-small .ensures)
-    (k₁ .vector-field .ensures)
+    (k₁ .vector-field .ensures (ar .matrix .now))
     (x₂ .combine-stage .ensures)
-    (k₂ .vector-field2 .ensures)
+    (k₂ .vector-field2 .ensures (ar .matrix .now))
     (x₃ .combine-stage2 .ensures)
-    (k₃ .vector-field3 .ensures)
+    (k₃ .vector-field3 .ensures (ar .matrix .now))
     (x₄ .combine-stage3 .ensures)
-    (k₄ .vector-field4 .ensures)
+    (k₄ .vector-field4 .ensures (ar .matrix .now))
     (v .advance-tangents .ensures)
     (u .rk4-update .ensures)
 
@@ -109,13 +109,13 @@ returns-2 c =
     let ar = s .args in
     small-step (ar .system) (ar .matrix .now) (ar .h) (ar .state .now) (ar .tangents .now) (ar .count) _ _ _ _ _ _ _ _ _ _ 2 (s .pre .1) (s .pre .3) (omega (arith, s .pre .2, s .pre .3, u .before .before .if1 .left))
     (x₁ .zero-padded-small .ensures)
-    (k₁ .vector-field .ensures)
+    (k₁ .vector-field .ensures (ar .matrix .now))
     (x₂ .combine-stage .ensures)
-    (k₂ .vector-field2 .ensures)
+    (k₂ .vector-field2 .ensures (ar .matrix .now))
     (x₃ .combine-stage2 .ensures)
-    (k₃ .vector-field3 .ensures)
+    (k₃ .vector-field3 .ensures (ar .matrix .now))
     (x₄ .combine-stage3 .ensures)
-    (k₄ .vector-field4 .ensures)
+    (k₄ .vector-field4 .ensures (ar .matrix .now))
     (v .advance-tangents .ensures)
     (u .rk4-update2 .ensures)
 

@@ -1,130 +1,84 @@
--- `system::rk4::advance_tangent` meets its contract, in the branch of each width.
-use native.Mathlib.Omega.{arith}
-use mathlib.Core.Path.{sym}
+-- `system::rk4::advance_tangent` meets its contract: each arm is a case of the definition.
+use mathlib.Core.Path.{sym, ap, _∙_}
 use borrow.Author.Needs.{needs}
-use lib.Seq.{length-take-le}
-use lib.Ieee.{ofBits}
-use Rattle.system.proofs.Moves.{small-direction}
+use Rattle.system.specs.System.{dim, tangent}
+use Rattle.system.specs.Stages.{moved}
 use Rattle.system.proofs.rk4.advance_tangent.Statement.{statement}
 use Rattle.system.proofs.rk4.advance_tangent.Tie as tie
 
-zero-padded-small-requires : tie.Need-zero-padded-small-requires
-zero-padded-small-requires c κs = search needs
+enum-known-system : tie.Need-enum-known-system
+enum-known-system c = search needs
 
-jacobian-vector-product-requires : tie.Need-jacobian-vector-product-requires
-jacobian-vector-product-requires c κs = search needs
+advance-lorenz-tangent-requires : tie.Need-advance-lorenz-tangent-requires
+advance-lorenz-tangent-requires c κs = let s = c .before .before .before .before .before .before in sym (s .pre .1) ∙ ap dim (c .before .before .system .given .1)
 
-combine-stage-requires : tie.Need-combine-stage-requires
-combine-stage-requires c κs = search needs
+enum-known-system-2 : tie.Need-enum-known-system-2
+enum-known-system-2 c = search needs
 
-jacobian-vector-product-requires-2 : tie.Need-jacobian-vector-product-requires-2
-jacobian-vector-product-requires-2 c κs = search needs
+advance-rossler-tangent-requires : tie.Need-advance-rossler-tangent-requires
+advance-rossler-tangent-requires c κs = let s = c .before .before .before .before .before .before in sym (s .pre .1) ∙ ap dim (c .before .before .system2 .given .1)
 
-combine-stage-requires-2 : tie.Need-combine-stage-requires-2
-combine-stage-requires-2 c κs = search needs
+enum-known-system-3 : tie.Need-enum-known-system-3
+enum-known-system-3 c = search needs
 
-jacobian-vector-product-requires-3 : tie.Need-jacobian-vector-product-requires-3
-jacobian-vector-product-requires-3 c κs = search needs
+advance-van-der-pol-tangent-requires : tie.Need-advance-van-der-pol-tangent-requires
+advance-van-der-pol-tangent-requires c κs = let s = c .before .before .before .before .before .before in sym (s .pre .1) ∙ ap dim (c .before .before .system3 .given .1)
 
-combine-stage-requires-3 : tie.Need-combine-stage-requires-3
-combine-stage-requires-3 c κs = search needs
+enum-known-system-4 : tie.Need-enum-known-system-4
+enum-known-system-4 c = search needs
 
-jacobian-vector-product-requires-4 : tie.Need-jacobian-vector-product-requires-4
-jacobian-vector-product-requires-4 c κs = c .before .before .before .before .before .before .before .before .before .before .before .before .before .before .before .before .before .before .before .before .pre .0
-
-slice-relend-prefix-rk4-update : tie.Need-slice-relend-prefix-rk4-update
-slice-relend-prefix-rk4-update c = search needs
-
-slice-aggregate-rk4-update : tie.Need-slice-aggregate-rk4-update
-slice-aggregate-rk4-update c = let s = c .before .before .before .before .before .before .before .before .before .before .before .before .before .before .before .before .before .before .before .before .before .before .before in sym (length-take-le 3 (s .args .t .now) (omega (arith, c .before .if1 .taken)))
-
-rk4-update-requires : tie.Need-rk4-update-requires
-rk4-update-requires c κs = let s = c .before .before .before .before .before .before .before .before .before .before .before .before .before .before .before .before .before .before .before .before .before .before .before in rw (length-take-le 3 (s .args .t .now) (omega (arith, c .before .if1 .taken))) (omega arith)
-
-slice-relend-prefix-rk4-update-2 : tie.Need-slice-relend-prefix-rk4-update-2
-slice-relend-prefix-rk4-update-2 c = let s = c .before .before .before .before .before .before .before .before .before .before .before .before .before .before .before .before .before .before .before .before .before .before in omega (arith, s .pre .2, s .pre .3)
-
-slice-aggregate-rk4-update-2 : tie.Need-slice-aggregate-rk4-update-2
-slice-aggregate-rk4-update-2 c = let s = c .before .before .before .before .before .before .before .before .before .before .before .before .before .before .before .before .before .before .before .before .before .before .before in sym (length-take-le 2 (s .args .t .now) (omega (arith, s .pre .2, s .pre .3)))
-
-rk4-update-requires-2 : tie.Need-rk4-update-requires-2
-rk4-update-requires-2 c κs = let s = c .before .before .before .before .before .before .before .before .before .before .before .before .before .before .before .before .before .before .before .before .before .before .before in rw (length-take-le 2 (s .args .t .now) (omega (arith, s .pre .2, s .pre .3))) (omega arith)
+advance-linear-requires : tie.Need-advance-linear-requires
+advance-linear-requires c κs =
+    let s = c .before .before .before .before .before .before in
+    let e = c .before .before .system4 .given .1 in
+    let p = rw e at (s .pre .0) in
+    (p .0, p .1, sym (s .pre .1) ∙ ap dim e)
 
 same-length : tie.Need-same-length
 same-length c = search needs
 
 returns : tie.Need-returns
-unfolding ofBits
-returns c =
-    let u = c .before .before in
-    let k₄ = u .before .before .before in
-    let t₄ = k₄ .before .before in
-    let k₃ = t₄ .before .before .before in
-    let t₃ = k₃ .before .before in
-    let k₂ = t₃ .before .before .before in
-    let t₂ = k₂ .before .before in
-    let k₁ = t₂ .before .before .before in
-    let t₁ = k₁ .before .before in
-    let s = t₁ .before .before .before .before in
-    let ar = s .args in
-    small-direction (ar .system) (ar .matrix .now) (ar .h) (ar .x1 .now) (ar .x2 .now) (ar .x3 .now) (ar .x4 .now) (ar .t .now) _ _ _ _ _ _ _ _ _ 3 (s .pre .1) (s .pre .3) (s .pre .3)
-    (t₁ .zero-padded-small .ensures)
-    (k₁ .jacobian-vector-product .ensures)
-    (t₂ .combine-stage .ensures)
-    (k₂ .jacobian-vector-product2 .ensures)
-    (t₃ .combine-stage2 .ensures)
-    (k₃ .jacobian-vector-product3 .ensures)
-    (t₄ .combine-stage3 .ensures)
-    (k₄ .jacobian-vector-product4 .ensures)
-    (u .rk4-update .ensures)
+unfolding tangent moved
+returns c = rw (c .before .before .before .before .before .system .given .1) (c .before .before .advance-lorenz-tangent .ensures)
 
 same-length-2 : tie.Need-same-length-2
 same-length-2 c = search needs
 
 returns-2 : tie.Need-returns-2
-unfolding ofBits
-returns-2 c =
-    let u = c .before .before in
-    let k₄ = u .before .before .before in
-    let t₄ = k₄ .before .before in
-    let k₃ = t₄ .before .before .before in
-    let t₃ = k₃ .before .before in
-    let k₂ = t₃ .before .before .before in
-    let t₂ = k₂ .before .before in
-    let k₁ = t₂ .before .before .before in
-    let t₁ = k₁ .before .before in
-    let s = t₁ .before .before .before .before in
-    let ar = s .args in
-    small-direction (ar .system) (ar .matrix .now) (ar .h) (ar .x1 .now) (ar .x2 .now) (ar .x3 .now) (ar .x4 .now) (ar .t .now) _ _ _ _ _ _ _ _ _ 2 (s .pre .1) (s .pre .3) (omega (arith, s .pre .2, s .pre .3, u .before .before .if1 .left))
-    (t₁ .zero-padded-small .ensures)
-    (k₁ .jacobian-vector-product .ensures)
-    (t₂ .combine-stage .ensures)
-    (k₂ .jacobian-vector-product2 .ensures)
-    (t₃ .combine-stage2 .ensures)
-    (k₃ .jacobian-vector-product3 .ensures)
-    (t₄ .combine-stage3 .ensures)
-    (k₄ .jacobian-vector-product4 .ensures)
-    (u .rk4-update2 .ensures)
+unfolding tangent moved
+returns-2 c = rw (c .before .before .before .before .before .system2 .given .1) (c .before .before .advance-rossler-tangent .ensures)
+
+same-length-3 : tie.Need-same-length-3
+same-length-3 c = search needs
+
+returns-3 : tie.Need-returns-3
+unfolding tangent moved
+returns-3 c = rw (c .before .before .before .before .before .system3 .given .1) (c .before .before .advance-van-der-pol-tangent .ensures)
+
+same-length-4 : tie.Need-same-length-4
+same-length-4 c = search needs
+
+returns-4 : tie.Need-returns-4
+unfolding tangent moved
+returns-4 c = rw (c .before .before .before .before .before .system4 .given .1) (c .before .before .advance-linear .ensures)
 
 pub advance-tangent-spec : {M : Type 1} → statement M
 advance-tangent-spec =
     tie.close
     (tie.spec
-    zero-padded-small-requires
-    jacobian-vector-product-requires
-    combine-stage-requires
-    jacobian-vector-product-requires-2
-    combine-stage-requires-2
-    jacobian-vector-product-requires-3
-    combine-stage-requires-3
-    jacobian-vector-product-requires-4
-    slice-relend-prefix-rk4-update
-    slice-aggregate-rk4-update
-    rk4-update-requires
-    slice-relend-prefix-rk4-update-2
-    slice-aggregate-rk4-update-2
-    rk4-update-requires-2
+    enum-known-system
+    advance-lorenz-tangent-requires
+    enum-known-system-2
+    advance-rossler-tangent-requires
+    enum-known-system-3
+    advance-van-der-pol-tangent-requires
+    enum-known-system-4
+    advance-linear-requires
     same-length
     returns
     same-length-2
-    returns-2)
+    returns-2
+    same-length-3
+    returns-3
+    same-length-4
+    returns-4)

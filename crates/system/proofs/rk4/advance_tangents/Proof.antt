@@ -52,7 +52,7 @@ advance-tangent-requires c κs =
     let k : l .j * d + d - l .j * d ≡ d = omega arith in
     let g : d ≤ length (drop (l .j * d) (l .tangents)) = rw length-drop (omega arith) in
     let q : length (take (l .j * d + d - l .j * d) (drop (l .j * d) (l .tangents))) ≡ d = rw k (length-take-le d (drop (l .j * d) (l .tangents)) g) in
-    (s .pre .0, s .pre .1 ∙ sym q, omega (arith, q, s .pre .2), omega (arith, q, s .pre .3))
+    (s .pre .0, s .pre .1 ∙ sym q)
 
 add-j : tie.Need-add-j Inv-loop μ-loop
 add-j c = search needs

@@ -11,16 +11,16 @@ use Rattle.system.specs.declared.System.the-variants.{Lorenz, Rossler, V
 use Rattle.system.specs.Stepper.{advance-by, rk4}
 use Rattle.system.specs.Step.{advance}
 use Rattle.system.specs.System.{dim, field, tangent}
-use Rattle.system.specs.Stages.{moved}
+use Rattle.system.specs.Stages.{NotLinear, moved}
 use Rattle.system.proofs.Moves.{leaves}
 use Rattle.system.proofs.System.{the-type}
 use Rattle.system.proofs.rk4.advance_values.Statement.{statement}
 use Rattle.system.proofs.rk4.advance_values.Tie as tie
 
-few-of : (S : System) → OneOf (0 ∷ 1 ∷ 2 ∷ []) (tagOf the-type S) → (2 ≤ dim S) × (dim S ≤ 3)
-few-of (Lorenz σ ρ β) k = (omega arith, omega arith)
-few-of (Rossler a b e) k = (omega arith, omega arith)
-few-of (VanDerPol μ) k = (omega arith, omega arith)
+few-of : (S : System) → OneOf (0 ∷ 1 ∷ 2 ∷ []) (tagOf the-type S) → NotLinear S × (2 ≤ dim S) × (dim S ≤ 3)
+few-of (Lorenz σ ρ β) k = (tt, omega arith, omega arith)
+few-of (Rossler a b e) k = (tt, omega arith, omega arith)
+few-of (VanDerPol μ) k = (tt, omega arith, omega arith)
 few-of (Linear d) k = absurd (miss (0 ∷ 1 ∷ 2 ∷ []) 3 tt k)
 
 enum-known-system : tie.Need-enum-known-system
@@ -46,7 +46,7 @@ advance-small-requires : tie.Need-advance-small-requires
 advance-small-requires c κs =
     let s = c .before .before .before .before .before .before in
     let q = few-of (s .args .system) (c .before .before .match .keys2) in
-    (s .pre .0, s .pre .1, omega (arith, q .0, s .pre .1), omega (arith, q .1, s .pre .1), s .pre .2)
+    (q .0, s .pre .1, omega (arith, q .1, s .pre .1), omega (arith, q .2, s .pre .1), s .pre .2)
 
 same-length : tie.Need-same-length
 same-length c = search needs
