@@ -1,0 +1,25 @@
+#!/usr/bin/env bash
+# Compiles the example with the header and the archive, and runs it; the header is compiled as C++
+# too. Usage: examples/run.sh ARCHIVE
+set -euo pipefail
+
+if [ $# -ne 1 ] || [ ! -f "$1" ]; then
+    echo "usage: $0 ARCHIVE, the path of liblyapunov.a" >&2
+    exit 2
+fi
+archive=$1
+root=$(cd "$(dirname "${BASH_SOURCE[0]}")/.." && pwd)
+work=$(mktemp -d)
+trap 'rm -rf "$work"' EXIT
+
+cc=${CC:-cc}
+"$cc" -std=c99 -pedantic -Wall -Wextra -Werror -O2 -I "$root/include" \
+    "$root/examples/lorenz.c" "$archive" -o "$work/lorenz"
+"$work/lorenz"
+
+# The header alone, as C++.
+cxx=${CXX:-c++}
+if command -v "$cxx" >/dev/null; then
+    "$cxx" -std=c++11 -pedantic -Wall -Wextra -Werror -fsyntax-only \
+        -x c++ "$root/include/lyapunov.h"
+fi

@@ -1,0 +1,65 @@
+//! The orthonormaliser on its own.
+
+use crate::problem::linear;
+use crate::race::{same_bits, Race};
+use oracle::{End, Oracle};
+use std::hint::black_box;
+
+pub fn races(oracle: Option<&Oracle>) -> Result<Vec<Race>, String> {
+    let sizes = [(3, 20_000), (16, 500)];
+    let race = |(size, calls)| race(oracle.copied(), size, calls);
+    sizes.into_iter().map(race).collect()
+}
+
+fn race(oracle: Option<Oracle>, size: usize, calls: usize) -> Result<Race, String> {
+    let name = format!("orthonormalise, d={size} K={size}");
+    let mut directions = linear(size, size).directions();
+    // The pattern of directions repeats; the diagonal keeps them apart.
+    for at in 0..size {
+        directions[at * size + at] += 2.0;
+    }
+    if let Some(oracle) = &oracle {
+        let mine = by_library(&directions, size);
+        same_bits(&name, &mine, &by_source(oracle, &directions, size)?)?;
+    }
+    let copy = directions.clone();
+    let other = oracle.map(|oracle| -> Box<dyn FnMut()> {
+        Box::new(move || {
+            for _ in 0..calls {
+                let _ = black_box(by_source(&oracle, black_box(&copy), size));
+            }
+        })
+    });
+    Ok(Race {
+        name,
+        target: Some(1.0),
+        calls,
+        library: Box::new(move || {
+            for _ in 0..calls {
+                black_box(by_library(black_box(&directions), size));
+            }
+        }),
+        other,
+    })
+}
+
+/// The directions and their logarithms. As in the source, memory for the answer is part of it.
+fn by_library(directions: &[f64], size: usize) -> Vec<f64> {
+    let mut directions = directions.to_vec();
+    let mut numbers = vec![0.0; 2 * size];
+    let refusal = lyapunov_sys::modified_gram_schmidt(&mut directions, size, &mut numbers);
+    assert_eq!(refusal.number, 0, "the directions are independent");
+    directions.extend_from_slice(&numbers[..size]);
+    directions
+}
+
+fn by_source(oracle: &Oracle, directions: &[f64], size: usize) -> Result<Vec<f64>, String> {
+    let mut directions = directions.to_vec();
+    match oracle.modified_gram_schmidt(&mut directions, size) {
+        End::Done(logarithms) => {
+            directions.extend(logarithms);
+            Ok(directions)
+        }
+        end => Err(format!("the source ends with {end:?}")),
+    }
+}

@@ -1,0 +1,224 @@
+//! The fixed list of answers, which is replayed where the source is not at hand.
+
+use super::many::{run_label, step_label, unlabelled};
+use crate::cases::{Build, Case, Draw, Log, Orth, Program, Rates, Root, Run, Step};
+use crate::generate::{self, edges, patterns, seeds};
+use crate::random::Random;
+use crate::tally::Tally;
+use crate::values::Answer;
+use oracle::Oracle;
+
+const HEADER: &str = "\
+# Inputs of document 01 and their answers: its marked examples and edges, every refusal of the
+# base, and random inputs.
+# Written in host/ by: cargo run --release -p compare -- write-list FILE
+# The answers are those of the Rust source, MonumentalSystems/commutator-rs at bff4212c1d, built
+# with document 01's two substitutions (every float sum folds from 0.0, the logarithm is document
+# 01's), and of host/model, an independent reading of document 01. by=oracle: both have the
+# behaviour and agree. by=model: the source has none (5, 8, 9, 13, 21, 23, 24, the bound of 16 in
+# 19). Faint counts, and the squared lengths of orth, are the model's.
+# A case is one line: KIND id=ID name=value ... -> name=value ... # remark. Left of the arrow
+# stands what is handed in, right of it what comes back. A float is the 16 hexadecimal digits of
+# its bits, and so are seeds, states and outputs of the generator; counts are decimal. Lists are
+# parted by commas, - is the empty list or no value, and . is an entry of an output that keeps
+# what it held. An answered NaN stands for every NaN. place=0/2 lists the places that a refusal
+# may have.
+";
+
+/// Lines longer than this are not taken from the random inputs.
+const LONGEST: usize = 1200;
+
+/// The list as text.
+pub fn write_list() -> Result<String, String> {
+    let oracle = Oracle::load().map_err(|error| format!("{error}: no list was written"))?;
+    let mut list = List {
+        oracle,
+        random: Random::seeded(1),
+        text: HEADER.to_string(),
+        cases: 0,
+    };
+    list.leaves()?;
+    list.directions_and_steps()?;
+    list.runs()?;
+    list.settings_and_rates()?;
+    println!("{} cases, {} bytes", list.cases, list.text.len());
+    Ok(list.text)
+}
+
+struct List {
+    oracle: Oracle,
+    random: Random,
+    text: String,
+    cases: u64,
+}
+
+impl List {
+    /// Adds a case, once the model and the source agree on it.
+    fn add<C: Case>(&mut self, case: &C, remark: &str) -> Result<(), String> {
+        let model = case.model();
+        let source = case.source(&self.oracle);
+        if let Some(difference) = source.as_ref().and_then(|source| source.difference(&model)) {
+            return Err(format!(
+                "model against source: {difference}: {}",
+                case.written()
+            ));
+        }
+        let by = if source.is_some() { "oracle" } else { "model" };
+        self.cases += 1;
+        let id = format!("L{:04}", self.cases);
+        let line = case.line(&id, &model, &format!("by={by}, {remark}"));
+        self.text.push_str(&line);
+        self.text.push('\n');
+        Ok(())
+    }
+
+    /// Adds random cases until `tries` were looked at, at most `each` of a label.
+    fn add_random<C: Case>(
+        &mut self,
+        each: u64,
+        tries: u64,
+        generate: impl Fn(u64, &mut Random) -> C,
+        label: fn(&C, &Answer) -> String,
+    ) -> Result<(), String> {
+        let mut tally = Tally::default();
+        for index in 0..tries {
+            let case = generate(index, &mut self.random);
+            let answer = case.model();
+            let label = label(&case, &answer);
+            let length = case.written().len() + answer.written().len();
+            let enough = tally.of(answer.number(), &label) >= each;
+            if enough || length > LONGEST || !is_of_document(&case) {
+                continue;
+            }
+            tally.count(answer.number(), &label);
+            self.add(&case, &format!("random{label}"))?;
+        }
+        Ok(())
+    }
+
+    fn leaves(&mut self) -> Result<(), String> {
+        for x in [4.0, 2.0, f64::from_bits(1)] {
+            self.add(&Root(x), "marked")?;
+        }
+        for x in [1.0, 2.0] {
+            self.add(&Log(x), "marked")?;
+        }
+        for x in special_values() {
+            self.add(&Root(x), "special value")?;
+            self.add(&Log(x), "special value")?;
+        }
+        for _ in 0..40 {
+            let x = patterns::random_float(&mut self.random).abs();
+            self.add(&Root(x), "random")?;
+            self.add(&Log(x), "random")?;
+        }
+        for bits in patterns::AT_BOUND {
+            let remark = "the side of the bound of the high word decides";
+            self.add(&Log(f64::from_bits(bits)), remark)?;
+        }
+        for bits in patterns::DECIDING {
+            let remark = "the last digit of a constant decides";
+            self.add(&Log(f64::from_bits(bits)), remark)?;
+        }
+        self.draws()
+    }
+
+    fn draws(&mut self) -> Result<(), String> {
+        let draw = |state, turns| Draw { state, turns };
+        self.add(&draw(1234567, 5), "published outputs")?;
+        self.add(&draw(edges::DEFAULT_SEED, 9), "default seed")?;
+        for n in [0, 1 << 52, (1 << 53) - 1] {
+            let state = seeds::seed_with_draw(&mut self.random, 0, n);
+            self.add(&draw(state, 2), "marked draw")?;
+        }
+        for state in [0, 1, u64::MAX] {
+            self.add(&draw(state, 3), "special state")?;
+        }
+        for _ in 0..8 {
+            let state = self.random.bits();
+            self.add(&draw(state, 3), "random")?;
+        }
+        Ok(())
+    }
+
+    fn directions_and_steps(&mut self) -> Result<(), String> {
+        for orth in edges::marked_directions() {
+            self.add(&orth, "marked")?;
+        }
+        self.add(&edges::sum_of_negative_zeros(), "sums start at +0.0")?;
+        self.add(&edges::row_of_negative_zeros(), "sums start at +0.0")?;
+        self.add(&edges::rossler_at_zero(), "-y-z is (-y)-z")?;
+        let orth = |_, random: &mut Random| generate::orth::orth(random);
+        self.add_random::<Orth>(20, 400, orth, unlabelled)?;
+        self.add(&edges::marked_step(), "marked")?;
+        let steps = generate::step::neighbours(&mut self.random);
+        for step in steps.iter().filter(|step| is_of_document(*step)) {
+            self.add(step, "two failing tests")?;
+        }
+        self.add_random::<Step>(5, 6000, generate::step::step, step_label)
+    }
+
+    fn runs(&mut self) -> Result<(), String> {
+        let mut runs = edges::edges_of_settings();
+        runs.extend(edges::edges_of_lengths());
+        runs.extend(edges::usual_runs());
+        runs.extend(edges::pairs_of_demand_3());
+        runs.extend(edges::edges_of_draws(&mut self.random));
+        runs.push((edges::negative_zero_at_rest(), "a final entry of -0.0"));
+        for (run, remark) in runs {
+            self.add(&run, remark)?;
+        }
+        let runs = generate::broken_runs::neighbours(&mut self.random);
+        for run in runs.iter().filter(|run| is_of_document(*run)) {
+            self.add(run, "two failing tests")?;
+        }
+        self.add_random::<Run>(5, 40_000, generate::runs::run, run_label)
+    }
+
+    fn settings_and_rates(&mut self) -> Result<(), String> {
+        let settings = |_, random: &mut Random| Build(generate::settings::any(random));
+        self.add_random::<Build>(4, 400, settings, unlabelled)?;
+        let marked: [&[f64]; 4] = [&[1.0, 0.0, -2.0], &[1.0, 2.0], &[-1.0], &[-1.0, 0.5, 0.25]];
+        for rates in marked {
+            self.add(&Rates(rates.to_vec()), "marked")?;
+            let bytes = rates.iter().flat_map(|x| x.to_le_bytes());
+            self.add(&Program(bytes.collect()), "marked rates")?;
+        }
+        self.add(&Rates(vec![]), "no rates")?;
+        self.add(&Rates(vec![0.0; 256]), "as many rates as may be")?;
+        self.add(&Rates(vec![0.0; 257]), "one rate too many")?;
+        let half = f64::EPSILON / 2.0;
+        self.add(&Rates(vec![half, half, 1.0]), "entropy in the order given")?;
+        let rates = |_, random: &mut Random| generate::rates::rates(random);
+        self.add_random::<Rates>(20, 200, rates, unlabelled)?;
+        for length in [0, 1, 7, 9, 16, 2048, 2049, 2056] {
+            self.add(&Program(vec![0x3f; length]), "length")?;
+        }
+        let bad = [0.0, f64::NAN].iter().flat_map(|x| x.to_le_bytes());
+        self.add(&Program(bad.collect()), "a NaN")
+    }
+}
+
+/// Whether document 01 has the case: a system of an unknown kind is known to the C interface only.
+fn is_of_document<C: Case>(case: &C) -> bool {
+    !case.written().contains("sys=kind:")
+}
+
+/// Ends of the format, the infinities, a NaN and the bound of the logarithm's high word.
+fn special_values() -> Vec<f64> {
+    let bound = 0x3ff6_a09e_0000_0000;
+    let mut values = vec![
+        0.0,
+        1.0,
+        f64::MIN_POSITIVE,
+        f64::MAX,
+        f64::INFINITY,
+        f64::NAN,
+    ];
+    values.extend(values.clone().iter().map(|x| -x));
+    values.push(f64::from_bits((1 << 52) - 1));
+    for bits in [bound - 1, bound, bound - (1 << 52), bound - (1 << 52) - 1] {
+        values.push(f64::from_bits(bits));
+    }
+    values
+}

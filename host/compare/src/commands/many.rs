@@ -1,0 +1,182 @@
+//! Random and adversarial inputs of one kind, against the model and the source.
+
+use super::{source, Differences, Inputs};
+use crate::cases::{Build, Case, Orth, Rates, Run, Step};
+use crate::circuit::{Circuit, System};
+use crate::generate;
+use crate::random::Random;
+use crate::tally::{Tally, ENOUGH};
+use crate::values::{Answer, Value};
+
+/// What an answer is counted as, beside its refusal's number.
+type Label<C> = fn(&C, &Answer) -> String;
+
+pub fn step(inputs: Inputs) -> bool {
+    let mut expected = [2, 6, 7, 8, 9, 10, 19].map(|number| (number, "")).to_vec();
+    for system in SYSTEMS {
+        expected.extend([(0, system), (16, system), (17, system)]);
+    }
+    compare::<Step>("step", inputs, generate::step::step, step_label, &expected)
+}
+
+pub fn orthonormalise(inputs: Inputs) -> bool {
+    let expected = [0, 7, 13, 14].map(|number| (number, ""));
+    let generate = |_, random: &mut Random| generate::orth::orth(random);
+    compare::<Orth>("orthonormalise", inputs, generate, unlabelled, &expected)
+}
+
+pub fn rates(inputs: Inputs) -> bool {
+    let expected = [0, 20, 21, 22].map(|number| (number, ""));
+    let generate = |_, random: &mut Random| generate::rates::rates(random);
+    compare::<Rates>("rates", inputs, generate, unlabelled, &expected)
+}
+
+pub fn settings(inputs: Inputs) -> bool {
+    let expected = [0, 1, 2, 3, 4, 5].map(|number| (number, ""));
+    let generate = |_, random: &mut Random| Build(generate::settings::any(random));
+    compare::<Build>("settings", inputs, generate, unlabelled, &expected)
+}
+
+pub fn runs(inputs: Inputs) -> bool {
+    let mut expected: Vec<(u64, &str)> = (1..=12).map(|number| (number, "")).collect();
+    expected.extend(SYSTEMS.map(|system| (0, system)));
+    expected.extend([
+        (0, FAINT),
+        (0, INFINITE_RATE),
+        (0, INFINITE_TIME),
+        (13, ""),
+        (14, AT_DRAW),
+        (14, IN_WARM_UP),
+        (14, BEFORE_ROWS),
+        (14, AFTER_ROWS),
+        (15, ""),
+    ]);
+    for number in [16, 17, 18] {
+        expected.extend([IN_WARM_UP, BEFORE_ROWS, AFTER_ROWS].map(|label| (number, label)));
+    }
+    let agree = compare::<Run>("runs", inputs, generate::runs::run, run_label, &expected);
+    if !Run::is_linked() {
+        return false;
+    }
+    let broken = generate::runs::broken_before(inputs.count);
+    let pairs = generate::broken_runs::PAIRS;
+    let met = broken.min(pairs);
+    println!("  {broken} of them with failing tests: {met} of {pairs} pairs of tests met");
+    agree && (met == pairs || inputs.count < ENOUGH)
+}
+
+const FAINT: &str = ", a faint direction";
+const INFINITE_RATE: &str = ", an infinite rate";
+const INFINITE_TIME: &str = ", infinite measured time";
+const AT_DRAW: &str = " at the draw";
+const IN_WARM_UP: &str = " in a warm-up window";
+const BEFORE_ROWS: &str = " in the first measured window";
+const AFTER_ROWS: &str = " after a row";
+
+pub fn unlabelled<C>(_: &C, _: &Answer) -> String {
+    String::new()
+}
+
+/// The systems of document 01 as labels.
+const SYSTEMS: [&str; 4] = [", Lorenz", ", Rossler", ", van der Pol", ", linear"];
+
+fn system_label(circuit: &Circuit) -> &'static str {
+    match circuit.system {
+        System::Lorenz(_) => SYSTEMS[0],
+        System::Rossler(_) => SYSTEMS[1],
+        System::VanDerPol(_) => SYSTEMS[2],
+        System::Linear(_) => SYSTEMS[3],
+        System::Unknown(_) => "",
+    }
+}
+
+/// Which system was moved, where one was.
+pub fn step_label(step: &Step, answer: &Answer) -> String {
+    let label = match answer.number() {
+        0 | 16 | 17 => system_label(&step.circuit),
+        _ => "",
+    };
+    label.to_string()
+}
+
+/// Where a run was refused, or what is special in its answer.
+pub fn run_label(run: &Run, answer: &Answer) -> String {
+    let count = |name: &str| match answer.get(name) {
+        Some(Value::Count(count)) => *count,
+        _ => 0,
+    };
+    let infinite = |name: &str| match answer.get(name) {
+        Some(Value::Float(x)) => x.is_infinite(),
+        Some(Value::Floats(values)) => values.iter().any(|x| x.is_infinite()),
+        _ => false,
+    };
+    let faint =
+        matches!(answer.get("faint"), Some(Value::Counts(counts)) if counts.iter().any(|n| *n > 0));
+    let steps = run.settings.steps_per_window;
+    let warm_up = steps.saturating_mul(run.settings.transient_windows);
+    let collapsed = answer.number() == 14;
+    let label = match answer.number() {
+        0 if infinite("mtime") => INFINITE_TIME,
+        0 if infinite("rows") || infinite("exps") => INFINITE_RATE,
+        0 if faint => FAINT,
+        0 => system_label(&run.circuit),
+        14 if count("made") == 0 => AT_DRAW,
+        14 | 16 | 17 | 18 if count("finished") > 0 => AFTER_ROWS,
+        // A collapse counts the steps of its window, the others do not count their step.
+        14 | 16 | 17 | 18 if count("made") + u64::from(!collapsed) <= warm_up => IN_WARM_UP,
+        14 | 16 | 17 | 18 => BEFORE_ROWS,
+        _ => "",
+    };
+    label.to_string()
+}
+
+/// Compares `count` inputs and prints the counts; `expected` are the labels that must be met.
+fn compare<C: Case>(
+    name: &str,
+    inputs: Inputs,
+    generate: impl Fn(u64, &mut Random) -> C,
+    label: Label<C>,
+    expected: &[(u64, &str)],
+) -> bool {
+    if !C::is_linked() {
+        println!("{name}: the library that is linked does not have these functions");
+        return false;
+    }
+    let oracle = source();
+    let count = inputs.count;
+    let mut random = Random::seeded(inputs.seed);
+    let (mut tally, mut differences, mut by_source) = (Tally::default(), Differences::default(), 0);
+    for index in 0..count {
+        let case = generate(index, &mut random);
+        let model = case.model();
+        let source = oracle.as_ref().and_then(|oracle| case.source(oracle));
+        tally.count(model.number(), &label(&case, &model));
+        by_source += u64::from(source.is_some());
+        if let Some(difference) = first_difference(&case, &model, source.as_ref()) {
+            let line = || case.line(&format!("{name}{index}"), &model, "by the model");
+            differences.add(|| format!("{difference}\n  {}", line()));
+        }
+    }
+    tally.print();
+    println!(
+        "{name}: {count} inputs against the model, {by_source} of them against the source, {} differ",
+        differences.count
+    );
+    tally.covers(count, expected) && differences.count == 0
+}
+
+/// The first difference between the library and a reference, or between the two references.
+fn first_difference<C: Case>(case: &C, model: &Answer, source: Option<&Answer>) -> Option<String> {
+    let library = match case.library() {
+        Ok(answer) => answer,
+        Err(memory) => return Some(format!("library: {memory}")),
+    };
+    if let Some(difference) = source.and_then(|source| source.difference(&library)) {
+        return Some(format!("library against source: {difference}"));
+    }
+    if let Some(difference) = model.difference(&library) {
+        return Some(format!("library against model: {difference}"));
+    }
+    let between = source.and_then(|source| source.difference(model));
+    between.map(|difference| format!("model against source: {difference}"))
+}

@@ -1,0 +1,172 @@
+//! Demand 3 by running: a run for k exponents and one for K, all else equal.
+
+use super::{Differences, Inputs};
+use crate::cases::{Case, Outcome, Run};
+use crate::generate;
+use crate::random::Random;
+use crate::tally::Tally;
+use crate::values::{same, same_list};
+
+/// How the two runs of a pair compare.
+const EQUAL: &str = ", equal";
+const NOT_EQUAL: &str = " at a direction k or above, not equal";
+
+pub fn pairs(inputs: Inputs) -> bool {
+    if !Run::is_linked() {
+        println!("pairs: the library that is linked does not have these functions");
+        return false;
+    }
+    let mut random = Random::seeded(inputs.seed);
+    let (mut tally, mut against) = (Tally::default(), Differences::default());
+    let (mut pairs, mut index) = (0, 0);
+    while pairs < inputs.count {
+        let run = generate::runs::run(index, &mut random);
+        index += 1;
+        let Some((longer, shorter)) = pair(run, &mut random) else {
+            continue;
+        };
+        pairs += 1;
+        if let Err(broken) = judge(&longer, &shorter, &mut tally) {
+            let k = shorter.settings.top_k;
+            against.add(|| format!("pairs: {broken}, k={k} against {}", longer.written()));
+        }
+    }
+    println!("By the refusal of the run for K:");
+    tally.print();
+    println!("pairs: {pairs} pairs, {} against the claim", against.count);
+    let mut expected = vec![(14, NOT_EQUAL), (17, NOT_EQUAL)];
+    expected.extend([0, 2, 3, 4, 5, 6, 9, 10, 11, 14, 15, 16, 17, 18].map(|n| (n, EQUAL)));
+    tally.covers(pairs, &expected) && against.count == 0
+}
+
+/// The run for K, with 1 <= K <= d, and the one for a smaller k, or now and then for the same,
+/// each with outputs that are long enough. Other tests may fail.
+fn pair(run: Run, random: &mut Random) -> Option<(Run, Run)> {
+    let d = run.circuit.dimension() as u64;
+    if d == 0 || d > 16 {
+        return None;
+    }
+    let top_k = run.settings.top_k.clamp(1, d);
+    let shorter = match top_k {
+        1 if !random.one_in(8) => return None,
+        1 => 1,
+        _ if random.one_in(16) => top_k,
+        _ => random.within(1, top_k - 1),
+    };
+    let with = |top_k: u64| {
+        let mut run = run.clone();
+        run.settings.top_k = top_k;
+        // Where a count is over, no output is looked at.
+        let windows = run.settings.windows.min(64) as usize;
+        run.rows = windows * (1 + 2 * top_k as usize);
+        run.exponents = top_k as usize;
+        run.final_state = d as usize;
+        run
+    };
+    Some((with(top_k), with(shorter)))
+}
+
+/// Counts the side of a pair, or says what is broken.
+fn judge(longer: &Run, shorter: &Run, tally: &mut Tally) -> Result<(), String> {
+    let (long, short) = (longer.outcome()?, shorter.outcome()?);
+    if long.number == 13 || short.number == 13 {
+        return Err("refused by 13".to_string());
+    }
+    let k = shorter.settings.top_k as usize;
+    let equal = leading_equals(&long, longer.settings.top_k as usize, &short, k);
+    let above = refused_at_or_above(&long, k, longer.circuit.dimension());
+    match (equal, above) {
+        (true, false) => tally.count(long.number, EQUAL),
+        (false, true) => tally.count(long.number, NOT_EQUAL),
+        (true, true) => return Err("equal, though refused at k or above".to_string()),
+        (false, false) => return Err("not equal".to_string()),
+    }
+    Ok(())
+}
+
+fn refused_at_or_above(outcome: &Outcome, k: usize, d: usize) -> bool {
+    let direction = match outcome.number {
+        14 => outcome.place as usize,
+        17 => outcome.place as usize / d,
+        _ => return false,
+    };
+    direction >= k
+}
+
+/// Whether the run for K, struck to its leading k directions, equals the run for k.
+fn leading_equals(long: &Outcome, top_k: usize, short: &Outcome, k: usize) -> bool {
+    let refused = (long.number, long.place, long.finished, long.steps);
+    if refused != (short.number, short.place, short.finished, short.steps) {
+        return false;
+    }
+    if long.faint[..k] != short.faint[..k] || !rows_equal(long, top_k, short, k) {
+        return false;
+    }
+    long.number != 0
+        || (same_list(&long.exponents[..k], &short.exponents)
+            && same_list(&long.final_state, &short.final_state)
+            && same(long.final_time, short.final_time)
+            && same(long.measured_time, short.measured_time))
+}
+
+/// End times, locals and runnings below k of the finished windows.
+fn rows_equal(long: &Outcome, top_k: usize, short: &Outcome, k: usize) -> bool {
+    let long_rows = long.rows.chunks(1 + 2 * top_k);
+    let short_rows = short.rows.chunks(1 + 2 * k);
+    let mut rows = long_rows.zip(short_rows).take(long.finished as usize);
+    rows.all(|(long, short)| {
+        same(long[0], short[0])
+            && same_list(&long[1..1 + k], &short[1..1 + k])
+            && same_list(&long[1 + top_k..1 + top_k + k], &short[1 + k..])
+    })
+}
+
+#[cfg(test)]
+mod tests {
+    use super::*;
+
+    fn outcome(number: u64, place: u64, rows: &[f64]) -> Outcome {
+        Outcome {
+            number,
+            place,
+            finished: 1,
+            steps: 3,
+            faint: vec![0; 16],
+            final_time: 0.0,
+            measured_time: 0.0,
+            rows: rows.to_vec(),
+            exponents: rows[1..1 + rows.len() / 2].to_vec(),
+            final_state: vec![1.0],
+        }
+    }
+
+    #[test]
+    fn what_is_left_is_compared() {
+        let long = outcome(0, 0, &[9.0, 1.0, 2.0, 3.0, 4.0]);
+        assert!(leading_equals(
+            &long,
+            2,
+            &outcome(0, 0, &[9.0, 1.0, 3.0]),
+            1
+        ));
+        for rows in [[9.5, 1.0, 3.0], [9.0, 2.0, 3.0], [9.0, 1.0, 4.0]] {
+            assert!(
+                !leading_equals(&long, 2, &outcome(0, 0, &rows), 1),
+                "{rows:?}"
+            );
+        }
+        let mut short = outcome(0, 0, &[9.0, 1.0, 3.0]);
+        short.final_state = vec![2.0];
+        assert!(!leading_equals(&long, 2, &short, 1));
+    }
+
+    #[test]
+    fn refusals_at_a_direction() {
+        let row = [0.0, 0.0, 0.0];
+        assert!(refused_at_or_above(&outcome(14, 2, &row), 2, 3));
+        assert!(!refused_at_or_above(&outcome(14, 1, &row), 2, 3));
+        assert!(refused_at_or_above(&outcome(17, 6, &row), 2, 3));
+        assert!(!refused_at_or_above(&outcome(17, 5, &row), 2, 3));
+        assert!(!refused_at_or_above(&outcome(16, 6, &row), 2, 3));
+    }
+}

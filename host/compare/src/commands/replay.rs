@@ -1,0 +1,114 @@
+//! Replays a list of cases.
+
+use super::{Differences, PRINTED};
+use crate::cases::{Build, Case, Draw, Log, Orth, Program, Rates, Root, Run, Step};
+use crate::line::Line;
+use std::collections::BTreeMap;
+use std::path::Path;
+
+/// What became of the cases of one kind.
+#[derive(Default)]
+struct Count {
+    compared: u64,
+    not_covered: u64,
+    differ: u64,
+}
+
+/// What became of one case.
+enum Replayed {
+    Same,
+    Differs(String),
+    /// Its functions are not linked, or its program is not given.
+    NotCovered,
+}
+
+/// Replays every case of `text`; `program` is the path of the program `spectrum`.
+pub fn replay(text: &str, program: Option<&Path>) -> Result<bool, String> {
+    let mut counts: BTreeMap<String, Count> = BTreeMap::new();
+    let mut differences = Differences::default();
+    for (number, text) in text.lines().enumerate() {
+        if text.is_empty() || text.starts_with('#') {
+            continue;
+        }
+        let in_line = |error: String| format!("line {}: {error}", number + 1);
+        let line = Line::read(text).map_err(in_line)?;
+        let (kind, id) = (line.kind.to_string(), line.id.to_string());
+        let replayed = replay_line(line, program).map_err(in_line)?;
+        let count = counts.entry(kind).or_default();
+        match replayed {
+            Replayed::Same => count.compared += 1,
+            Replayed::NotCovered => count.not_covered += 1,
+            Replayed::Differs(difference) => {
+                count.compared += 1;
+                count.differ += 1;
+                differences.add(|| format!("{id}: {difference}"));
+            }
+        }
+    }
+    if differences.count > PRINTED {
+        println!("{} more differ", differences.count - PRINTED);
+    }
+    Ok(print_counts(&counts))
+}
+
+fn print_counts(counts: &BTreeMap<String, Count>) -> bool {
+    let (mut compared, mut differ) = (0, 0);
+    for (kind, count) in counts {
+        if count.compared > 0 {
+            println!("{kind}: {} cases, {} differ", count.compared, count.differ);
+        }
+        if count.not_covered > 0 {
+            let what = if kind == Program::KIND {
+                "need --program PATH"
+            } else {
+                "need functions that are not linked"
+            };
+            println!("{kind}: {} cases {what}", count.not_covered);
+        }
+        compared += count.compared;
+        differ += count.differ;
+    }
+    println!("{compared} cases, {differ} differ");
+    compared > 0 && differ == 0
+}
+
+fn replay_line(line: Line, program: Option<&Path>) -> Result<Replayed, String> {
+    match line.kind {
+        Root::KIND => replay_case::<Root>(line),
+        Log::KIND => replay_case::<Log>(line),
+        Draw::KIND => replay_case::<Draw>(line),
+        Step::KIND => replay_case::<Step>(line),
+        Orth::KIND => replay_case::<Orth>(line),
+        Run::KIND => replay_case::<Run>(line),
+        Rates::KIND => replay_case::<Rates>(line),
+        Build::KIND => replay_case::<Build>(line),
+        Program::KIND => replay_program(line, program),
+        kind => Err(format!("unknown kind {kind}")),
+    }
+}
+
+fn replay_case<C: Case>(mut line: Line) -> Result<Replayed, String> {
+    let case = C::read(&mut line.input)?;
+    line.input.finish()?;
+    let expected = line.answer.answer(C::ANSWER)?;
+    if !C::is_linked() {
+        return Ok(Replayed::NotCovered);
+    }
+    Ok(match case.library() {
+        Ok(answer) => expected
+            .difference(&answer)
+            .map_or(Replayed::Same, Replayed::Differs),
+        Err(memory) => Replayed::Differs(memory),
+    })
+}
+
+fn replay_program(mut line: Line, program: Option<&Path>) -> Result<Replayed, String> {
+    let case = Program::read(&mut line.input)?;
+    line.input.finish()?;
+    let expected = line.answer.answer(Program::ANSWER)?;
+    let Some(path) = program else {
+        return Ok(Replayed::NotCovered);
+    };
+    let difference = expected.difference(&case.printed(path)?);
+    Ok(difference.map_or(Replayed::Same, Replayed::Differs))
+}

@@ -1,0 +1,266 @@
+//! Document 01's marked examples and edges.
+
+use super::circuits::{diagonal, linear};
+use super::runs::halving;
+use super::seeds::seed_with_draw;
+use crate::cases::{Case, Orth, Run, Settings, Step};
+use crate::circuit::{Circuit, System};
+use crate::random::Random;
+use crate::values::Answer;
+
+/// The seed of settings that name none.
+pub const DEFAULT_SEED: u64 = 0x4c59_4150_554e_4f56;
+
+/// Settings with one step a window, one window, no warm-up and the default seed.
+pub fn settings(top_k: u64, step_size: f64) -> Settings {
+    Settings {
+        top_k,
+        step_size,
+        steps_per_window: 1,
+        windows: 1,
+        transient_windows: 0,
+        seed: DEFAULT_SEED,
+    }
+}
+
+/// Linear(1), matrix 1, h 6, state 1 steps to 115.
+pub fn marked_step() -> Step {
+    Step {
+        circuit: linear(1, vec![1.0]),
+        time: 0.0,
+        step_size: 6.0,
+        state: vec![1.0],
+        directions: vec![],
+        count: 0,
+    }
+}
+
+/// Directions (2,0),(2,3) and (1,0),(2,0).
+pub fn marked_directions() -> [Orth; 2] {
+    [[2.0, 0.0, 2.0, 3.0], [1.0, 0.0, 2.0, 0.0]].map(|directions| Orth {
+        dimension: 2,
+        directions: directions.to_vec(),
+        numbers: 4,
+    })
+}
+
+/// A sum of negative zeros is +0.0, since it starts there: the first direction entry keeps its
+/// sign.
+pub fn sum_of_negative_zeros() -> Orth {
+    Orth {
+        dimension: 2,
+        directions: vec![1.0, 0.0, -0.0, -1.0],
+        numbers: 4,
+    }
+}
+
+/// The same in a row of a matrix: the state -0.0 steps to +0.0.
+pub fn row_of_negative_zeros() -> Step {
+    Step {
+        circuit: linear(1, vec![0.0]),
+        state: vec![-0.0],
+        directions: vec![-0.0],
+        count: 1,
+        ..marked_step()
+    }
+}
+
+/// -y - z is (-y) - z, which is +0.0 here, and not the negative of y + z.
+pub fn rossler_at_zero() -> Step {
+    Step {
+        circuit: Circuit::new(System::Rossler([1.0, 0.0, 1.0]), vec![]),
+        state: vec![-0.0, 0.0, -0.0],
+        directions: vec![-0.0, 0.0, -0.0],
+        count: 1,
+        ..marked_step()
+    }
+}
+
+/// A linear run with one step a window, from a state of ones at time 0.
+fn linear_run(circuit: Circuit, top_k: u64, step_size: f64) -> Run {
+    let d = circuit.dimension();
+    Run::fitting(circuit, settings(top_k, step_size), 0.0, vec![1.0; d])
+}
+
+/// The edges of dimension, exponents, step size and outputs.
+pub fn edges_of_settings() -> Vec<(Run, &'static str)> {
+    let decay = |d: usize| diagonal(&vec![-0.25; d]);
+    let smallest = f64::from_bits(1);
+    let mut two_steps = linear_run(decay(1), 1, 1e308);
+    two_steps.settings.steps_per_window = 2;
+    let rests = || linear_run(linear(1, vec![0.0]), 1, 1.0);
+    let (mut rows, mut exponents, mut final_state) = (rests(), rests(), rests());
+    rows.rows -= 1;
+    exponents.exponents -= 1;
+    final_state.final_state -= 1;
+    vec![
+        (linear_run(decay(16), 2, 0.125), "d 16"),
+        (linear_run(decay(17), 2, 0.125), "d 17"),
+        (linear_run(decay(2), 2, 0.125), "K = d"),
+        (linear_run(decay(2), 3, 0.125), "K = d + 1"),
+        (linear_run(decay(2), 2, smallest), "h = 2^-1074 runs"),
+        (linear_run(decay(2), 2, 0.0), "h = +0.0"),
+        (linear_run(decay(2), 2, -0.0), "h = -0.0"),
+        (
+            linear_run(linear(1, vec![0.0]), 1, 1e308),
+            "h = 1e308, 1 step",
+        ),
+        (two_steps, "h = 1e308, 2 steps"),
+        (rows, "rows one float short"),
+        (exponents, "exponents one float short"),
+        (final_state, "final state one float short"),
+    ]
+}
+
+/// 480 halvings leave the squared length 2^-960, which is not faint; 537 leave 2^-1074.
+pub fn edges_of_lengths() -> Vec<(Run, &'static str)> {
+    let run = |steps: u64| {
+        let mut run = linear_run(diagonal(&[halving()]), 1, 1.0);
+        run.settings.steps_per_window = steps;
+        run
+    };
+    vec![
+        (run(480), "squared length 2^-960 is not faint"),
+        (run(481), "squared length below 2^-960 is faint"),
+        (run(537), "squared length 2^-1074 does not collapse"),
+        (run(538), "squared length 0 collapses"),
+        (faint_then_refused(), "a refused run has no faint counts"),
+    ]
+}
+
+/// The direction, on the first axis, is faint in the first window; the state, on the second, grows
+/// and overflows in the second window.
+fn faint_then_refused() -> Run {
+    let mut run = linear_run(diagonal(&[halving(), 1.0]), 1, 1.0);
+    run.settings.seed = seed_with_draw(&mut Random::seeded(1), 1, 1 << 52);
+    run.settings.steps_per_window = 481;
+    with_windows(run, 2)
+}
+
+/// Runs of the three nonlinear systems from the default seed, with warm-up.
+pub fn usual_runs() -> Vec<(Run, &'static str)> {
+    let systems = [
+        (System::Lorenz([10.0, 28.0, 8.0 / 3.0]), vec![1.0, 1.0, 1.0]),
+        (System::Rossler([0.2, 0.2, 5.7]), vec![1.0, 1.0, 0.0]),
+        (System::VanDerPol(1.0), vec![2.0, 0.0]),
+    ];
+    let run = |(system, state): (System, Vec<f64>)| {
+        let mut settings = settings(state.len() as u64, 0.01);
+        settings.steps_per_window = 10;
+        settings.windows = 3;
+        settings.transient_windows = 2;
+        let circuit = Circuit::new(system, vec![]);
+        (
+            Run::fitting(circuit, settings, 0.0, state),
+            "usual parameters",
+        )
+    };
+    systems.map(run).into()
+}
+
+/// A Rössler run that rests with a negative zero in its state, for one exponent.
+pub fn negative_zero_at_rest() -> Run {
+    let circuit = Circuit::new(System::Rossler([-1.0, -0.0, 1.0]), vec![]);
+    Run::fitting(circuit, settings(1, 1.0), 0.0, vec![-0.0, 0.0, 0.0])
+}
+
+/// Runs for K = 1 and K = 2, all else equal. For a strong shear the second direction collapses,
+/// so that the two differ, as demand 3 lets them; for growth alike in all directions they agree.
+pub fn pairs_of_demand_3() -> Vec<(Run, &'static str)> {
+    let growth = |top_k| with_windows(linear_run(diagonal(&[1.0, 1.0]), top_k, 6.0), 2);
+    let mut runs: Vec<_> = (1..=2).map(|k| (growth(k), "growth, k and K")).collect();
+    let shear = |top_k: u64, seed: u64| {
+        let circuit = linear(2, vec![0.0, 1e20, 0.0, 0.0]);
+        let mut run = with_windows(linear_run(circuit, top_k, 6.0), 2);
+        run.settings.seed = seed;
+        run
+    };
+    let collapses = |seed: &u64| {
+        let answer = shear(2, *seed).model();
+        Answer::refusal(14, 1).difference(&answer).is_none()
+    };
+    if let Some(seed) = (0..1000).find(collapses) {
+        runs.extend((1..=2).map(|k| (shear(k, seed), "shear, k and K")));
+    }
+    runs
+}
+
+fn with_windows(run: Run, windows: u64) -> Run {
+    let mut settings = run.settings;
+    settings.windows = windows;
+    Run::fitting(run.circuit, settings, run.time, run.state)
+}
+
+/// Draws of -1, 0 and 1 - 2^-52 in dimension 1. The basis comes before test 15.
+pub fn edges_of_draws(random: &mut Random) -> Vec<(Run, &'static str)> {
+    let mut run = |n: u64| {
+        let mut run = linear_run(linear(1, vec![0.5]), 1, 0.5);
+        run.settings.seed = seed_with_draw(random, 0, n);
+        run
+    };
+    let mut long_window = run(1 << 52);
+    long_window.settings.step_size = 1e308;
+    long_window.settings.steps_per_window = 2;
+    vec![
+        (
+            long_window,
+            "draw of 0 and an infinite window: the basis is tested first",
+        ),
+        (run(0), "draw of -1"),
+        (run(1 << 52), "draw of 0 collapses before any step"),
+        (run((1 << 53) - 1), "draw of 1 - 2^-52"),
+    ]
+}
+
+#[cfg(test)]
+mod tests {
+    use super::*;
+    use crate::values::Value;
+
+    #[test]
+    fn sums_start_at_positive_zero() {
+        let directions = Value::Floats(vec![1.0, 0.0, -0.0, -1.0]);
+        let answer = sum_of_negative_zeros().model();
+        assert!(answer
+            .get("dirs")
+            .is_some_and(|value| directions.admits(value)));
+        let state = Value::Floats(vec![0.0]);
+        let answer = row_of_negative_zeros().model();
+        assert!(answer.get("state").is_some_and(|value| state.admits(value)));
+    }
+
+    #[test]
+    fn the_resting_state_keeps_its_zero() {
+        let state = Value::Floats(vec![-0.0, 0.0, 0.0]);
+        let answer = negative_zero_at_rest().model();
+        assert!(answer.get("final").is_some_and(|value| state.admits(value)));
+    }
+
+    #[test]
+    fn a_negated_entry_keeps_its_zero() {
+        let Some(Value::Floats(state)) = rossler_at_zero().model().get("state").cloned() else {
+            panic!("a step has a state");
+        };
+        assert_eq!(state[0].to_bits(), 0);
+    }
+
+    #[test]
+    fn the_refused_run_was_faint() {
+        let answer = faint_then_refused().model();
+        assert_eq!(answer.number(), 16);
+        assert_eq!(answer.get("finished"), Some(&Value::Count(1)));
+        let answer = with_windows(faint_then_refused(), 1).model();
+        let mut counts = vec![0; 16];
+        counts[0] = 1;
+        assert_eq!(answer.get("faint"), Some(&Value::Counts(counts)));
+    }
+
+    #[test]
+    fn the_pairs_show_both_sides() {
+        let numbers: Vec<u64> = pairs_of_demand_3()
+            .iter()
+            .map(|(run, _)| run.model().number())
+            .collect();
+        assert_eq!(numbers, [0, 0, 0, 14]);
+    }
+}

@@ -1,0 +1,87 @@
+//! Compares the proved library with the Rust source and with the model of document 01.
+
+mod cases;
+mod circuit;
+mod commands;
+mod generate;
+mod line;
+mod random;
+mod tally;
+mod values;
+
+use commands::Inputs;
+use std::path::{Path, PathBuf};
+use std::process::ExitCode;
+
+/// The seed of generated inputs where none is given.
+const DEFAULT_SEED: &str = "1";
+
+const USAGE: &str = "usage:
+  compare cases FILE [--program PATH]    replay a list of cases; PATH is the program spectrum
+  compare leaves --count N               root, logarithm and generator on N patterns each
+  compare step --count N                 steps on their own
+  compare orthonormalise --count N       the orthonormaliser on its own
+  compare settings --count N             settings that are built
+  compare runs --count N                 whole runs
+  compare pairs --count N                runs for k and for K exponents (demand 3)
+  compare rates --count N                dimension and entropy
+  compare write-list FILE                write the fixed list of answers
+Generated inputs are the same for the same N and the same --seed S, which may follow N.
+Exit status: 0 nothing differs, 1 something differs or was not met, 2 bad usage.";
+
+fn main() -> ExitCode {
+    let words: Vec<String> = std::env::args().skip(1).collect();
+    let words: Vec<&str> = words.iter().map(String::as_str).collect();
+    match command(&words) {
+        Ok(true) => ExitCode::SUCCESS,
+        Ok(false) => ExitCode::from(1),
+        Err(message) => {
+            eprintln!("{message}");
+            ExitCode::from(2)
+        }
+    }
+}
+
+/// Runs the command; `Ok(false)` where something differs.
+fn command(words: &[&str]) -> Result<bool, String> {
+    match words {
+        ["cases", file] => replay(file, None),
+        ["cases", file, "--program", path] => replay(file, Some(PathBuf::from(path))),
+        ["write-list", file] => write_list(file),
+        [name, "--count", count] => compare(name, count, DEFAULT_SEED),
+        [name, "--count", count, "--seed", seed] => compare(name, count, seed),
+        _ => Err(USAGE.to_string()),
+    }
+}
+
+/// Runs the comparison `name` on generated inputs.
+fn compare(name: &str, count: &str, seed: &str) -> Result<bool, String> {
+    let number = |text: &str| text.parse().map_err(|_| format!("{text} is no number"));
+    let inputs = Inputs {
+        count: number(count)?,
+        seed: number(seed)?,
+    };
+    let compare = match name {
+        "leaves" => commands::leaves,
+        "step" => commands::step,
+        "orthonormalise" => commands::orthonormalise,
+        "settings" => commands::settings,
+        "runs" => commands::runs,
+        "pairs" => commands::pairs,
+        "rates" => commands::rates,
+        _ => return Err(USAGE.to_string()),
+    };
+    Ok(compare(inputs))
+}
+
+fn replay(file: &str, program: Option<PathBuf>) -> Result<bool, String> {
+    let text = std::fs::read_to_string(file).map_err(|error| format!("{file}: {error}"))?;
+    commands::replay(&text, program.as_deref().map(Path::new))
+        .map_err(|error| format!("{file}, {error}"))
+}
+
+fn write_list(file: &str) -> Result<bool, String> {
+    let list = commands::write_list()?;
+    std::fs::write(file, list).map_err(|error| format!("{file}: {error}"))?;
+    Ok(true)
+}

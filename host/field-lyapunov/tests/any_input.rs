@@ -1,0 +1,149 @@
+//! No input makes a call panic, and what is answered has the shape that it promises.
+
+use field_lyapunov::{
+    estimate_spectrum_at, kaplan_yorke_dimension, kolmogorov_sinai_entropy, ln,
+    modified_gram_schmidt, sqrt, BenettinConfig, Rk4, SplitMix64, System,
+};
+
+const FLOATS: [f64; 11] = [
+    0.0,
+    -0.0,
+    1.0,
+    -3.5,
+    1e-320,
+    1e160,
+    -1e308,
+    f64::MAX,
+    f64::INFINITY,
+    f64::NEG_INFINITY,
+    f64::NAN,
+];
+
+const SIZES: [usize; 8] = [0, 1, 2, 3, 5, 16, 17, usize::MAX];
+
+/// A source of choices.
+struct Chooser(SplitMix64);
+
+impl Chooser {
+    fn size(&mut self) -> usize {
+        let at = self.0.next_u64() as usize % SIZES.len();
+        SIZES[at]
+    }
+
+    /// Mostly a number of everyday size.
+    fn float(&mut self) -> f64 {
+        let at = self.0.next_u64() as usize % 44;
+        *FLOATS.get(at).unwrap_or(&(3.0 * self.0.symmetric_unit()))
+    }
+
+    fn floats(&mut self, length: usize) -> Vec<f64> {
+        (0..length.min(300)).map(|_| self.float()).collect()
+    }
+
+    fn system(&mut self) -> System {
+        match self.0.next_u64() % 6 {
+            0 => System::Lorenz {
+                sigma: self.float(),
+                rho: self.float(),
+                beta: self.float(),
+            },
+            1 => System::Rossler {
+                a: self.float(),
+                b: self.float(),
+                c: self.float(),
+            },
+            2 => System::VanDerPol { mu: self.float() },
+            _ => self.linear(),
+        }
+    }
+
+    fn linear(&mut self) -> System {
+        let dimension = self.size();
+        let matrix = match self.0.next_u64() % 8 {
+            0 => self.floats(dimension),
+            _ => self.floats(dimension.saturating_mul(dimension)),
+        };
+        System::Linear { dimension, matrix }
+    }
+
+    /// Mostly of the length that is asked for.
+    fn state(&mut self, dimension: usize) -> Vec<f64> {
+        let other = self.size();
+        match self.0.next_u64() % 8 {
+            0 => self.floats(other),
+            _ => self.floats(dimension),
+        }
+    }
+}
+
+fn chooser(seed: u64) -> Chooser {
+    Chooser(SplitMix64::new(seed))
+}
+
+#[test]
+fn runs() {
+    let mut chooser = chooser(1);
+    let (mut answered, mut refused) = (0, 0);
+    for _ in 0..20_000 {
+        let stepper = Rk4::new(chooser.system());
+        let state = chooser.state(stepper.dimension());
+        let (k, steps, windows) = (chooser.size(), chooser.size(), chooser.size());
+        let Ok(config) = BenettinConfig::new(k, chooser.float(), steps, windows) else {
+            continue;
+        };
+        let config = config.with_transient_windows(chooser.size());
+        match estimate_spectrum_at(&stepper, chooser.float(), &state, &config) {
+            Ok(estimate) => {
+                answered += 1;
+                assert_eq!(estimate.exponents().len(), k);
+                assert_eq!(estimate.faint_counts().len(), k);
+                assert_eq!(estimate.finite_time_estimates().len(), windows);
+                assert_eq!(estimate.final_state().len(), state.len());
+                let all = steps as u64 * (windows + config.transient_windows()) as u64;
+                assert_eq!(estimate.steps(), all);
+            }
+            Err(run) => {
+                refused += 1;
+                assert!((1..=24).contains(&run.error().number()));
+                assert!(run.finite_time_estimates().len() <= windows);
+                assert!(!run.to_string().is_empty());
+            }
+        }
+    }
+    assert!(answered > 100 && refused > 100, "{answered} {refused}");
+}
+
+#[test]
+fn steps_and_orthonormalisations() {
+    let mut chooser = chooser(2);
+    for _ in 0..20_000 {
+        let stepper = Rk4::new(chooser.system());
+        let mut state = chooser.state(stepper.dimension());
+        let count = chooser.size();
+        let length = stepper.dimension().saturating_mul(count);
+        let mut tangents = chooser.state(length);
+        let (time, h) = (chooser.float(), chooser.float());
+        let _ = stepper.step(time, &mut state, &mut tangents, count, h);
+        let dimension = chooser.size();
+        if let Ok(logarithms) = modified_gram_schmidt(&mut tangents, dimension) {
+            assert_eq!(logarithms.len(), tangents.len() / dimension);
+            assert!(logarithms.iter().all(|x| x.is_finite()));
+        }
+    }
+}
+
+#[test]
+fn rates_and_arithmetic() {
+    let mut chooser = chooser(3);
+    for _ in 0..20_000 {
+        let length = chooser.0.next_u64() as usize % 300;
+        let exponents = chooser.floats(length);
+        if let Ok(dimension) = kaplan_yorke_dimension(&exponents) {
+            assert!((0.0..=length as f64).contains(&dimension));
+            assert!(kolmogorov_sinai_entropy(&exponents).unwrap() >= 0.0);
+        }
+        let x = f64::from_bits(chooser.0.next_u64());
+        assert_eq!(sqrt(x).is_nan(), x.is_nan() || x < 0.0);
+        assert_eq!(ln(x).is_ok(), x.is_normal() && x > 0.0);
+    }
+}

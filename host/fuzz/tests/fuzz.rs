@@ -1,0 +1,37 @@
+//! The program as a gate runs it.
+
+use std::process::{Command, Output};
+
+fn fuzz(words: &[&str]) -> Output {
+    Command::new(env!("CARGO_BIN_EXE_fuzz"))
+        .args(words)
+        .output()
+        .expect("the program runs")
+}
+
+#[test]
+fn some_calls_show_no_difference() {
+    let output = fuzz(&["--calls", "20000", "--seconds", "60", "--seed", "3"]);
+    let text = String::from_utf8_lossy(&output.stdout).into_owned();
+    assert_eq!(output.status.code(), Some(0), "{text}");
+    for function in ["sqrt", "ln", "step", "estimate_spectrum_at", "build_config"] {
+        assert!(text.contains(function), "{function} in {text}");
+    }
+    assert!(text
+        .lines()
+        .last()
+        .is_some_and(|line| line.ends_with(" 20000")));
+}
+
+#[test]
+fn the_same_seed_makes_the_same_calls() {
+    let words = ["--calls", "500", "--seed", "9"];
+    assert_eq!(fuzz(&words).stdout, fuzz(&words).stdout);
+}
+
+#[test]
+fn bad_usage() {
+    for words in [&["--calls"][..], &["--calls", "x"], &["--colour", "1"]] {
+        assert_eq!(fuzz(words).status.code(), Some(2));
+    }
+}

@@ -1,0 +1,59 @@
+//! Document 01 as plain Rust, written from the document and not from the source.
+//!
+//! It answers what the source has no behaviour for (refusals 5, 8, 9, 13, 21, 23, 24, the bound
+//! of 16 in 19, faint counts, the rows of a refused run) and is a second opinion on the rest. It
+//! favours plainness over speed.
+
+mod arithmetic;
+mod orthonormalise;
+mod rates;
+mod run;
+mod step;
+mod system;
+
+pub use arithmetic::{
+    logarithm, logarithm_of_parts, logarithm_with, splitmix64, square_root, symmetric_unit,
+    LOGARITHM_CONSTANTS,
+};
+pub use orthonormalise::orthonormalise;
+pub use rates::{entropy, kaplan_yorke_dimension, spectrum_program};
+pub use run::{build_config, counts_over_limit, estimate, Config, Estimate, Outputs, COUNT_LIMIT};
+pub use step::step;
+pub use system::{Circuit, System};
+
+/// The largest dimension, and the largest number of directions of a step.
+pub const MAX_DIMENSION: usize = 16;
+
+/// A refusal of document 01: its number and its place.
+#[derive(Clone, Copy, Debug, PartialEq, Eq)]
+pub struct Refusal {
+    pub number: u64,
+    pub place: u64,
+}
+
+impl Refusal {
+    /// The refusal `number`, where no place is stated.
+    pub const fn of(number: u64) -> Self {
+        Self::at(number, 0)
+    }
+
+    /// The refusal `number` at `place`.
+    pub const fn at(number: u64, place: u64) -> Self {
+        Self { number, place }
+    }
+}
+
+/// The first index of an entry that is not finite.
+fn first_not_finite(values: &[f64]) -> Option<u64> {
+    let at = values.iter().position(|x| !x.is_finite())?;
+    Some(at as u64)
+}
+
+/// `Err` with `refusal` where `fails` holds.
+fn refuse_if(fails: bool, refusal: Refusal) -> Result<(), Refusal> {
+    if fails {
+        Err(refusal)
+    } else {
+        Ok(())
+    }
+}

@@ -1,0 +1,325 @@
+//! The panel as a user meets it: words in, text and exit status out.
+
+mod json;
+
+use std::fs;
+use std::path::PathBuf;
+use std::process::{Command, Output};
+
+fn panel(words: &[&str]) -> Output {
+    Command::new(env!("CARGO_BIN_EXE_panel"))
+        .args(words)
+        .output()
+        .expect("the panel runs")
+}
+
+fn stdout(output: &Output) -> String {
+    String::from_utf8(output.stdout.clone()).expect("text")
+}
+
+fn stderr(output: &Output) -> String {
+    String::from_utf8(output.stderr.clone()).expect("text")
+}
+
+/// A file of this test's own.
+fn scratch(name: &str) -> PathBuf {
+    let file = PathBuf::from(env!("CARGO_TARGET_TMPDIR")).join(name);
+    let _ = fs::remove_file(&file);
+    file
+}
+
+fn assert_unfit(words: &[&str], message: &str) {
+    let output = panel(words);
+    assert_eq!(output.status.code(), Some(2), "{words:?}");
+    let told = stderr(&output);
+    assert!(told.contains(message), "{words:?}: {told}");
+    assert!(stdout(&output).is_empty(), "{words:?}");
+}
+
+#[test]
+fn without_options_it_is_near_the_known_values() {
+    let output = panel(&["--json"]);
+    assert_eq!(output.status.code(), Some(0), "{}", stderr(&output));
+    let value = json::read(&stdout(&output)).expect("JSON");
+    let rates = value.field("exponents").floats();
+    let known = [0.906, 0.0, -14.572];
+    for (rate, known) in rates.iter().zip(known) {
+        assert!((rate - known).abs() < 0.01, "{rate} {known}");
+    }
+    assert_eq!(rates.len(), 3);
+    let dimension = value.field("kaplan_yorke_dimension").float();
+    assert!((dimension - 2.062).abs() < 0.002, "{dimension}");
+    assert_eq!(value.field("faint_counts").floats(), [0.0, 0.0, 0.0]);
+    assert_eq!(value.field("seed").text(), "0x4c594150554e4f56");
+}
+
+#[test]
+fn the_text_has_rates_dimension_entropy_and_faint_counts() {
+    let output = panel(&["--windows", "2000"]);
+    assert_eq!(output.status.code(), Some(0));
+    let text = stdout(&output);
+    for words in [
+        "lorenz, sigma 10",
+        "direction",
+        "faint windows",
+        "dimension",
+        "entropy",
+    ] {
+        assert!(text.contains(words), "{words} in {text}");
+    }
+    assert!(!text.contains("WARNING"));
+}
+
+#[test]
+fn faint_windows_are_warned_of() {
+    let matrix = "-0.2,1,0,0,-1,-0.2,0,0,0,0,-7.5,1,0,0,0,-8.5";
+    let long = ["--system=linear", "--matrix", matrix, "--state=1,0,0,0"];
+    let run = |more: &[&str]| stdout(&panel(&[&long, more].concat()));
+    let text = run(&["--steps=4000", "--windows=20", "--warm-up=0"]);
+    assert!(text.contains("WARNING: direction 3"), "{text}");
+    assert!(text.contains("shorter windows"), "{text}");
+    assert!(text.contains("--steps, now 4000"), "{text}");
+    let text = run(&["--steps=10", "--windows=2000"]);
+    assert!(!text.contains("WARNING"), "{text}");
+}
+
+#[test]
+fn json_is_valid_whatever_the_numbers() {
+    // Windows so short that a rate overflows.
+    let words = [
+        "--system=linear",
+        "--matrix=1",
+        "--step=5e-324",
+        "--windows=1",
+        "--json",
+    ];
+    let output = panel(&words);
+    json::read(&stdout(&output)).expect("JSON");
+    let words = [
+        "--system=linear",
+        "--matrix=100",
+        "--step=1",
+        "--warm-up=0",
+        "--json",
+    ];
+    let output = panel(&words);
+    assert_eq!(output.status.code(), Some(2));
+    let value = json::read(&stdout(&output)).expect("JSON");
+    let refused = value.field("refused");
+    assert_eq!(refused.field("number").float(), 16.0);
+    assert_eq!(refused.field("finished_windows").float(), 4.0);
+    for words in [
+        ["--parameters", "nan,inf,-inf", "--json"],
+        ["-k", "0", "--json"],
+    ] {
+        let output = panel(&words);
+        assert_eq!(output.status.code(), Some(2));
+        let value = json::read(&stdout(&output)).expect("JSON");
+        assert!(value.field("refused").field("number").float() > 0.0);
+    }
+}
+
+#[test]
+fn rows_have_a_header_and_a_line_a_window() {
+    let file = scratch("rows.csv");
+    let name = file.to_str().expect("Unicode");
+    let output = panel(&["--windows", "123", "--rows", name, "-k", "2"]);
+    assert_eq!(output.status.code(), Some(0), "{}", stderr(&output));
+    let text = fs::read_to_string(&file).expect("rows");
+    let lines: Vec<&str> = text.lines().collect();
+    assert_eq!(lines.len(), 1 + 123);
+    assert_eq!(lines[0], "end_time,local_0,local_1,running_0,running_1");
+    for line in &lines[1..] {
+        let numbers: Vec<f64> = line
+            .split(',')
+            .map(|x| x.parse().expect("a float"))
+            .collect();
+        assert_eq!(numbers.len(), 5);
+    }
+}
+
+#[test]
+fn a_refused_run_leaves_the_rows_of_its_windows() {
+    let file = scratch("refused.csv");
+    let name = file.to_str().expect("Unicode");
+    let words = [
+        "--system=linear",
+        "--matrix=100",
+        "--step=1",
+        "--warm-up=0",
+        "--rows",
+        name,
+    ];
+    let output = panel(&words);
+    assert_eq!(output.status.code(), Some(2));
+    assert!(stderr(&output).contains("refused by 16 at place 0"));
+    assert_eq!(
+        fs::read_to_string(&file).expect("rows").lines().count(),
+        1 + 4
+    );
+    let file = scratch("nothing.csv");
+    let name = file.to_str().expect("Unicode");
+    assert_unfit(&["--state", "1,1", "--rows", name], "refused by 10");
+    assert!(!file.exists());
+}
+
+#[test]
+fn a_drawing_has_a_line_a_direction() {
+    let file = scratch("rates.svg");
+    let name = file.to_str().expect("Unicode");
+    let output = panel(&["--windows", "5000", "--svg", name]);
+    assert_eq!(output.status.code(), Some(0), "{}", stderr(&output));
+    let svg = fs::read_to_string(&file).expect("a drawing");
+    assert!(svg.starts_with("<svg ") && svg.ends_with("</svg>\n"));
+    assert_eq!(svg.matches("<polyline ").count(), 3);
+    for direction in 0..3 {
+        assert!(svg.contains(&format!("direction {direction}: ")));
+    }
+    assert!(svg.contains(">time<") && svg.contains(">running rate, 1 / time<"));
+    assert_elements_are_closed(&svg);
+}
+
+#[test]
+fn a_drawing_of_rates_that_are_not_finite() {
+    let file = scratch("infinite.svg");
+    let name = file.to_str().expect("Unicode");
+    for (matrix, step) in [
+        ("1", "5e-324"),
+        ("1", "1e-300"),
+        ("-1e300", "1e-300"),
+        ("0", "1e300"),
+    ] {
+        let matrix = format!("--matrix={matrix}");
+        let step = format!("--step={step}");
+        let words = [
+            "--system=linear",
+            &matrix,
+            &step,
+            "--windows=9",
+            "--svg",
+            name,
+        ];
+        panel(&words);
+        let svg = fs::read_to_string(&file).expect("a drawing");
+        assert_eq!(svg.matches("<polyline ").count(), 1);
+        assert!(!svg.contains("inf,") && !svg.contains("NaN,"), "{svg}");
+        assert_elements_are_closed(&svg);
+    }
+}
+
+/// Every element is opened and closed in turn, and no text holds a bare mark.
+fn assert_elements_are_closed(svg: &str) {
+    let mut open = Vec::new();
+    for piece in svg.split('<').skip(1) {
+        let (tag, text) = piece.split_once('>').expect("a closed tag");
+        assert!(!text.contains('>') && !text.contains('&'), "{text}");
+        assert_eq!(tag.matches('"').count() % 2, 0, "{tag}");
+        let name = |tag: &str| tag.split([' ', '/']).next().unwrap_or("").to_string();
+        if let Some(closed) = tag.strip_prefix('/') {
+            assert_eq!(open.pop(), Some(name(closed)));
+        } else if !tag.ends_with('/') {
+            open.push(name(tag));
+        }
+    }
+    assert!(open.is_empty(), "{open:?}");
+}
+
+#[test]
+fn unfit_words() {
+    assert_unfit(&["--colour", "red"], "--colour is no option");
+    assert_unfit(&["lorenz"], "lorenz is no option");
+    assert_unfit(&["--windows"], "--windows needs a value");
+    assert_unfit(
+        &["--windows", "many"],
+        "--windows: \"many\" is no whole number",
+    );
+    assert_unfit(&["--windows", "-1"], "is no whole number");
+    assert_unfit(&["--windows", "99999999999999999999"], "is no whole number");
+    assert_unfit(
+        &["--step", "small"],
+        "--step: \"small\" is no decimal number",
+    );
+    assert_unfit(&["--state", "1,,2"], "--state: \"\" is no decimal number");
+    assert_unfit(&["--seed", "0xg"], "--seed: \"0xg\" is no number");
+    assert_unfit(&["--system", "duffing"], "duffing is no system");
+    assert_unfit(&["--parameters", "1,2"], "lorenz has 3, and 2 are given");
+    assert_unfit(&["--matrix", "1"], "go with --system linear only");
+    assert_unfit(&["--system", "linear"], "needs a --matrix");
+    assert_unfit(
+        &["--system=linear", "--matrix=1", "--parameters=1"],
+        "has a --matrix instead",
+    );
+    assert_unfit(&["spectra", "--json"], "spectra takes no option");
+}
+
+#[test]
+fn refusals_are_told_with_number_and_place() {
+    assert_unfit(&["-k", "0"], "refused by 1 at place 0: no exponents");
+    assert_unfit(&["--step", "0"], "refused by 2 at place 0");
+    assert_unfit(&["--steps", "0"], "refused by 3");
+    assert_unfit(&["--windows", "0"], "refused by 4");
+    assert_unfit(&["--windows", "16777217"], "refused by 5 at place 1");
+    assert_unfit(
+        &["--windows", "18446744073709551615"],
+        "refused by 5 at place 1",
+    );
+    assert_unfit(&["--warm-up", "16777217"], "refused by 5 at place 2");
+    assert_unfit(&["--time", "inf"], "refused by 6");
+    let linear = |d, matrix| ["--system", "linear", "--dimension", d, "--matrix", matrix];
+    assert_unfit(&linear("0", "1"), "refused by 7");
+    assert_unfit(&linear("17", "1"), "refused by 8");
+    assert_unfit(&linear("18446744073709551615", "1"), "refused by 8");
+    assert_unfit(&linear("2", "1,2,3"), "refused by 9");
+    assert_unfit(&["--state", "1,2"], "refused by 10");
+    assert_unfit(&["--state", "1,2,nan"], "refused by 11 at place 2");
+    assert_unfit(&["-k", "4"], "refused by 12");
+    assert_unfit(&["--step", "1e308"], "refused by 15");
+    assert_unfit(&["--parameters", "nan,28,2"], "refused by 16 at place 0");
+}
+
+#[test]
+fn unwritable_files() {
+    let folder = env!("CARGO_TARGET_TMPDIR");
+    for option in ["--rows", "--svg"] {
+        let output = panel(&["--windows", "10", option, folder]);
+        assert_eq!(output.status.code(), Some(2));
+        assert!(stderr(&output).contains(folder), "{}", stderr(&output));
+        let missing = format!("{folder}/no-such-folder/file");
+        let output = panel(&["--windows", "10", option, &missing]);
+        assert_eq!(output.status.code(), Some(2));
+        assert!(stderr(&output).contains("no-such-folder"));
+    }
+}
+
+#[test]
+fn help() {
+    for word in ["--help", "-h"] {
+        let output = panel(&[word]);
+        assert_eq!(output.status.code(), Some(0));
+        assert!(stdout(&output).contains("--warm-up"));
+    }
+}
+
+#[test]
+fn a_seed_is_read_in_both_forms() {
+    let run = |seed: &str| {
+        stdout(&panel(&[
+            "--windows=50",
+            "--warm-up=0",
+            "--json",
+            "--seed",
+            seed,
+        ]))
+    };
+    assert_eq!(run("255"), run("0xff"));
+    assert_ne!(run("255"), run("256"));
+}
+
+#[test]
+fn known_spectra() {
+    let output = panel(&["spectra"]);
+    let text = stdout(&output);
+    assert_eq!(output.status.code(), Some(0), "{text}{}", stderr(&output));
+    assert!(text.contains("warned: faint windows"));
+    assert!(text.ends_with("all as known\n"));
+}

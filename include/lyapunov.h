@@ -1,0 +1,271 @@
+/*
+ * lyapunov.h - Lyapunov exponents by Benettin's method.
+ *
+ * The C interface of the static library liblyapunov.a. C99 or later, or C++.
+ *
+ * WHAT A CALL ANSWERS
+ *
+ * A function that can refuse returns the number of the refusal, and 0 where it did what it was
+ * asked to do. The refusals are listed below. A refusal may have a place: an index, a direction or
+ * an output. It is written to *place, and to counts[0] by a run. It is written by every call that
+ * takes it: 0 where the refusal has no place, and 0 where nothing is refused.
+ *
+ * Any number, infinity or NaN may be handed in: no value leads to anything but an answer or a
+ * refusal, and every call ends. A float that is computed or left in a slice equals the one that
+ * the operations of the method give in their stated order, to the bit; of a NaN only that it is a
+ * NaN.
+ *
+ * WHAT IS LENT
+ *
+ * A slice is a pointer and, straight after it, its length in entries (not bytes). The caller owns
+ * all memory, and the library keeps no pointer after the call. Four things are the caller's duty,
+ * since no call can test them:
+ *   - no pointer is NULL; where a length is 0, any other pointer will do, and nothing is read;
+ *   - as many entries as the length says may be read, and written where the pointer is not const;
+ *   - pointers are aligned for their type, as C demands of every double* and uint64_t*;
+ *   - the memory of an argument that is written overlaps no other argument's.
+ * Memory is read and written inside the stated lengths only. What is not stated as written stays
+ * as it is. Entries of an output past the part that is needed are not touched.
+ *
+ * THREADS, MEMORY, STACK
+ *
+ * There is no global state: no variable outlives a call, so every function is reentrant and may run
+ * in any number of threads at once, on different memory. Nothing is allocated, no file, clock or
+ * environment is read, no signal is raised, and errno is left alone. Floating point must be in the
+ * mode that C starts in: rounding to nearest, subnormals kept. Stack use is bounded; see README for
+ * the measured figure. The archive needs memcpy and memset of the C library, and no libm.
+ *
+ * REFUSALS
+ *
+ * Whoever sets the run:
+ *    1  top_k is 0
+ *    2  step_size is not finite, or not above 0
+ *    3  steps_per_window is 0
+ *    4  windows is 0
+ *    5  a count is above LYAPUNOV_MAX_COUNT; place: one that is (0 steps_per_window, 1 windows,
+ *       2 transient_windows)
+ *    6  the (start) time is not finite
+ *   12  top_k is above the dimension
+ *   15  the duration of a window, step_size * steps_per_window, is not finite
+ * Whoever picks the system:
+ *    7  the dimension is 0, or the kind is none of the four
+ *    8  the dimension is above LYAPUNOV_MAX_DIMENSION
+ *    9  matrix_len is not dimension * dimension (linear systems only)
+ * Whoever lends slices:
+ *   10  state_len is not the dimension
+ *   11  an entry of the start state is not finite; place: the first such index
+ *   13  an output is too short; place: the first short one (0 rows, 1 exponents, 2 final_state);
+ *       the orthonormaliser's numbers have place 0
+ *   19  a step's tangents_len is not dimension * count, or count is above LYAPUNOV_MAX_DIMENSION
+ * The circuit:
+ *   14  a direction collapsed: its squared length is 0 or not finite; place: the direction, from 0
+ *   16  an entry of the state became not finite; place: the first such index
+ *   17  an entry of the directions became not finite; place: the first such index, so that the
+ *       direction is place / dimension
+ *   18  the time became not finite
+ * Whoever reads rates:
+ *   20  there are no exponents
+ *   21  there are more than LYAPUNOV_MAX_EXPONENTS exponents
+ *   22  an exponent is not finite; place: the first such index
+ *   23  the number of bytes is not a multiple of 8; only the program `spectrum` refuses by it, and
+ *       no function of this header
+ *   24  the logarithm of anything that is not positive, normal and finite
+ */
+#ifndef LYAPUNOV_H
+#define LYAPUNOV_H
+
+#include <stddef.h>
+#include <stdint.h>
+
+#ifdef __cplusplus
+extern "C" {
+#endif
+
+/* The largest dimension, and the largest count of directions of a step. */
+#define LYAPUNOV_MAX_DIMENSION 16
+/* The largest steps_per_window, windows and transient_windows, each. */
+#define LYAPUNOV_MAX_COUNT 16777216
+/* The most exponents of a dimension or an entropy. */
+#define LYAPUNOV_MAX_EXPONENTS 256
+/* The seed to take where there is no reason for another. */
+#define LYAPUNOV_DEFAULT_SEED UINT64_C(0x4c594150554e4f56)
+
+/*
+ * THE SYSTEM is chosen by six arguments: kind, p0, p1, p2, dimension and the matrix. The parameters
+ * may be any floats; one that is not finite shows as a refusal 16 or 17 once it is used.
+ *
+ *   LYAPUNOV_LORENZ       dimension 3; p0 sigma, p1 rho, p2 beta:
+ *                         x' = sigma (y - x), y' = x (rho - z) - y, z' = x y - beta z
+ *   LYAPUNOV_ROSSLER      dimension 3; p0 a, p1 b, p2 c:
+ *                         x' = -y - z, y' = x + a y, z' = b + z (x - c)
+ *   LYAPUNOV_VAN_DER_POL  dimension 2; p0 mu:
+ *                         x' = y, y' = mu (1 - x x) y - x
+ *   LYAPUNOV_LINEAR       x' = A x, with A of dimension rows and columns in `matrix`, row by row:
+ *                         the entry of row i and column j is matrix[i * dimension + j]
+ *   any other kind        a system of dimension 0, which is refused by 7
+ *
+ * What a system does not use is not read or tested: p1 and p2 of van der Pol, all three of a linear
+ * system, and `dimension` and the matrix of the systems that are not linear.
+ */
+#define LYAPUNOV_LORENZ UINT64_C(0)
+#define LYAPUNOV_ROSSLER UINT64_C(1)
+#define LYAPUNOV_VAN_DER_POL UINT64_C(2)
+#define LYAPUNOV_LINEAR UINT64_C(3)
+
+/* Places in counts, which a run writes. */
+enum lyapunov_counts {
+    LYAPUNOV_PLACE = 0,    /* the place of the refusal, 0 where it has none or nothing is refused */
+    LYAPUNOV_FINISHED = 1, /* finished measured windows: so many rows are written */
+    LYAPUNOV_STEPS = 2,    /* steps that passed every test, warm-up included */
+    LYAPUNOV_FAINT = 3,    /* the faint count of direction i is at LYAPUNOV_FAINT + i, i below 16 */
+    LYAPUNOV_COUNTS = 19   /* the length of counts */
+};
+
+/* Places in times, which a run writes. */
+enum lyapunov_times {
+    LYAPUNOV_FINAL_TIME = 0,    /* the time at the end of the last window */
+    LYAPUNOV_MEASURED_TIME = 1, /* windows times the duration of a window; it may be infinite */
+    LYAPUNOV_TIMES = 2          /* the length of times */
+};
+
+/* The length that a run's rows must have, where top_k and windows are within their limits. */
+#define LYAPUNOV_ROWS_LENGTH(top_k, windows) ((size_t)(windows) * (1 + 2 * (size_t)(top_k)))
+
+/*
+ * A RUN: top_k exponents of a system from a start state, with rows that say how they came about.
+ *
+ *   kind .. matrix_len   the system, see above
+ *   time                 the time at the start; it only counts up, as no system here reads it
+ *   state                the start state, of the system's dimension
+ *   top_k                how many exponents, 1 up to the dimension
+ *   step_size            of a Runge-Kutta step of fourth order
+ *   steps_per_window     steps between two orthonormalisations of the directions
+ *   windows              measured windows
+ *   transient_windows    warm-up windows before them, which no row or exponent reports; may be 0
+ *   seed                 of the directions at the start; any value
+ *   rows                 at least LYAPUNOV_ROWS_LENGTH(top_k, windows) floats, see below
+ *   exponents            at least top_k floats: the exponents, in natural logarithms a unit of time
+ *   final_state          at least dimension floats: the state at the end
+ *   counts, times        19 numbers and 2 floats, see the enums above
+ *
+ * Row w, for measured window w from 0, stands at rows[w * (1 + 2 * top_k)]: the time at its end,
+ * then top_k local exponents (of this window alone), then top_k running ones (of all measured
+ * windows up to this one). The running exponents of the last row are the exponents.
+ *
+ * FAINT COUNTS. The faint count of a direction is the number of windows, warm-up included, at whose
+ * end its squared length was below 2^-960; it is 0 for directions from top_k on. Where it is 0, the
+ * lengths were long enough for their squares to be exact enough. Where it is not, the direction's
+ * rate, and those of the directions after it, may be wrong although they look like rates: run again
+ * with shorter windows, which means fewer steps a window or a smaller step_size. A count speaks
+ * of squares alone: directions whose lengths come to differ by more than the 53 bits of a double
+ * within one window can lose their rates although it is 0.
+ *
+ * ORDER OF TESTS. 1, 2, 3, 4, 5, 6, 7, 8, 9, 10, 11, 12, 13; then the directions are drawn (14) and
+ * 15 is tested; then each step tests 16, 17, 18, and each window's end 14.
+ *
+ * REFUSED. All of counts and times are written by every call. A refused run has faint counts of 0
+ * and times of +0.0. Refused by 1 to 13, by 15, or by 14 at the draw, it has written nothing else,
+ * and finished and steps are 0. Refused later, it has written the rows of its finished measured
+ * windows: counts[LYAPUNOV_FINISHED] rows, and no exponents and no final state.
+ *
+ * MORE EXPONENTS. A run for k exponents and one for more, all else equal, agree to the bit in all
+ * that both report, unless the larger one is refused at a direction numbered k or above.
+ */
+uint64_t lyapunov_estimate_spectrum_at(
+    uint64_t kind, double p0, double p1, double p2,
+    size_t dimension, const double *matrix, size_t matrix_len,
+    double time, const double *state, size_t state_len,
+    size_t top_k, double step_size, uint64_t steps_per_window, uint64_t windows,
+    uint64_t transient_windows, uint64_t seed,
+    double *rows, size_t rows_len,
+    double *exponents, size_t exponents_len,
+    double *final_state, size_t final_state_len,
+    uint64_t *counts, double *times);
+
+/*
+ * Tests the settings of a run without running: 1 to 5, with no warm-up windows. A run tests them
+ * again. Only *place is written.
+ */
+uint64_t lyapunov_build_config(
+    size_t top_k, double step_size, uint64_t steps_per_window, uint64_t windows,
+    uint64_t *place);
+
+/*
+ * One Runge-Kutta step of fourth order: moves the state, and `count` directions along with it.
+ *
+ *   kind .. matrix_len   the system, see above
+ *   time                 must be finite, and is not used otherwise
+ *   state                of the system's dimension; read, then overwritten
+ *   tangents             count directions one after the other, of dimension floats each; read, then
+ *                        overwritten
+ *   count                0 to 16; it may be above the dimension
+ *   step_size            finite and above 0
+ *
+ * Tests in this order: 7, 8, 9, 10, 19, 6, 2; refused by one of these, only *place is written.
+ * After the move 16 and 17 are tested; refused by one of them, both slices hold the new values.
+ */
+uint64_t lyapunov_step(
+    uint64_t kind, double p0, double p1, double p2,
+    size_t dimension, const double *matrix, size_t matrix_len,
+    double time, double *state, size_t state_len,
+    double *tangents, size_t tangents_len, size_t count,
+    double step_size, uint64_t *place);
+
+/*
+ * Modified Gram-Schmidt, with each direction cleared of the earlier ones twice.
+ *
+ *   tangents    count = tangents_len / dimension directions one after the other; leftover entries
+ *               are not touched
+ *   dimension   any number above 0, also above 16 and above tangents_len
+ *   numbers     at least 2 * count floats. Written are count logarithms of the lengths, then count
+ *               squared lengths, each taken after clearing and before the division by the length
+ *
+ * Tests 7, then 13; refused by one of these, only *place is written. Refused by 14 at direction v:
+ * each direction i below v is finished, with its numbers at i and count + i; direction v is cleared
+ * and not divided; all else in both slices is as it was.
+ */
+uint64_t lyapunov_modified_gram_schmidt(
+    double *tangents, size_t tangents_len, size_t dimension,
+    double *numbers, size_t numbers_len, uint64_t *place);
+
+/*
+ * The Kaplan-Yorke dimension of a spectrum of 1 to 256 finite exponents in any order, to *out. It
+ * lies between 0 and exponents_len. Tests 20, 21, 22; refused, *out is not touched.
+ */
+uint64_t lyapunov_kaplan_yorke_dimension(
+    const double *exponents, size_t exponents_len, double *out, uint64_t *place);
+
+/*
+ * The sum of the exponents above 0, in index order, to *out: the spectrum's side of Pesin's
+ * identity. Tests 20, 21, 22; refused, *out is not touched. The sum may be infinite.
+ */
+uint64_t lyapunov_kolmogorov_sinai_entropy(
+    const double *exponents, size_t exponents_len, double *out, uint64_t *place);
+
+/*
+ * The square root of IEEE 754, rounded to nearest: a NaN for a NaN and for a negative number; for
+ * either zero and for +infinity the number itself. Never refused.
+ */
+double lyapunov_sqrt(double x);
+
+/*
+ * The natural logarithm that a run uses, to *out. Refused by 24 unless x is positive, normal and
+ * finite; *out is then not touched.
+ */
+uint64_t lyapunov_ln(double x, double *out);
+
+/*
+ * The generator SplitMix64 that draws the directions, in three parts that are never refused: the
+ * state after `state`; the output of a state; the draw of an output, at least -1 and below 1. The
+ * first draw of a seed is
+ *   lyapunov_splitmix64_symmetric_unit(lyapunov_splitmix64_value(lyapunov_splitmix64_next(seed))).
+ */
+uint64_t lyapunov_splitmix64_next(uint64_t state);
+uint64_t lyapunov_splitmix64_value(uint64_t state);
+double lyapunov_splitmix64_symmetric_unit(uint64_t value);
+
+#ifdef __cplusplus
+}
+#endif
+
+#endif
