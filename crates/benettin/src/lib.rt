@@ -10,7 +10,7 @@ ghost use Rattle.benettin.specs.Estimate as Spec;
 use error::LyapunovError;
 use error::Outcome;
 
-// The settings of a run. The three counts are at most 16,777,216.
+// The settings of a run. Nothing is promised of the fields: a run tests them.
 pub struct BenettinConfig {
     pub top_k: usize,
     pub step_size: f64,
@@ -103,6 +103,7 @@ impl BenettinConfig {
         })
     }
 
+    // The settings with another count of warm-up windows, which the run tests.
     pub fn with_transient_windows(self, windows: u64) -> BenettinConfig
         ensures { λ r. ⌜ r ≡ Spec.with-warm-up windows self ⌝ }
     {
@@ -116,6 +117,7 @@ impl BenettinConfig {
         }
     }
 
+    // The settings with another seed.
     pub fn with_seed(self, seed: u64) -> BenettinConfig
         ensures { λ r. ⌜ r ≡ Spec.with-seed seed self ⌝ }
     {

@@ -1,4 +1,4 @@
--- What the two tests of a length tell, and what is holds of a direction by them.
+-- What the two tests of a length tell, and what is left of a direction by them.
 use Prim.Native.Nat.{ℕ, _+_, _*_, _≤_, _<_}
 use native.Mathlib.Nat.{eq-or-lt-of-le}
 use native.Mathlib.Omega.{arith}
@@ -71,7 +71,7 @@ normal-held (inf true) h g = sym h
 normal-held (inf false) h g = g
 normal-held (fin s m e) h g = rw (total s (m * up e * down (negsuc 1021)) (1 * up (negsuc 1021) * down e) h)
 
--- ---- what is holds of a direction
+-- ---- what is left of a direction
 
 pub norm-collapsed : (xs : List Float) (q r : Float) → q ≡ squared-length xs → r ≡ root q → collapsed r ≡ true → (Collapsed ≡ normalised xs) × (xs ≡ divided xs)
 norm-collapsed xs q r e f h = let g : collapsed (root (squared-length xs)) ≡ true = rw (f, e) at h in (rw g, rw g)

@@ -91,7 +91,7 @@ pub orthonormalise-stop : (done : List (List Float)) (t : List Float) (ts : List
 unfolding orthonormalise with-direction
 orthonormalise-stop done t ts w e h = rw (← e, h)
 
--- ---- what is holds to do from direction v on, as a function of the two slices as they are
+-- ---- what is left to do from direction v on, as a function of the two slices as they are
 
 abbrev pub counted : ℕ → Option ℕ → Option Refusal
 counted v none = none

@@ -1,4 +1,4 @@
--- For a caller: the two slices once every direction is finished. The directions and what was holds over; the logarithms, the squared lengths, and the rest of numbers.
+-- For a caller: the two slices once every direction is finished. The directions and what was left over; the logarithms, the squared lengths, and the rest of numbers.
 use Prim.Native.Nat.{ℕ, zero, suc, _+_, _*_, _≤_}
 use native.Mathlib.Omega.{arith}
 use mathlib.Core.Path.{_≡_, refl, sym, ap, _∙_}

@@ -1,4 +1,4 @@
--- What the loops go by: one more turn, and the end. What is holds to do is a function of the list as it is and of the index.
+-- What the loops go by: one more turn, and the end. What is left to do is a function of the list as it is and of the index.
 use Prim.Native.Nat.{ℕ, suc, _+_, _-_, _*_, _≤_, _<_}
 use native.Mathlib.Nat.{suc-mul, zero-mul, sub-zero, add-zero, add-mul, add-sub-cancel-left}
 use native.Mathlib.Numerals.{add-one}
@@ -14,7 +14,7 @@ use Rattle.floats.specs.Vector.{dot-from, part, chunks}
 use Rattle.floats.proofs.Sets.{part-length, part-cons, part-set, part-sets, sets-over, sets-own}
 use Rattle.floats.proofs.Vector.{chunks-sets}
 
--- ---- a direction subtract-projection a multiple of another one
+-- ---- a direction less a multiple of another one
 
 pub subtract-length : (p : Float) (v b : List Float) → length (subtract-projection p v b) ≡ length v
 unfolding subtract-projection

@@ -109,6 +109,8 @@ fn orthonormalise_at(tangents: &mut [f64], v: usize, d: usize) -> Normalised
     normalise(&mut tangents[a..e])
 }
 
+// Orthonormalises the directions of `dimension` entries that lie one after the other in `tangents`. `numbers` takes their
+// logarithms, then their squared lengths.
 pub fn modified_gram_schmidt(tangents: &mut [f64], dimension: usize, numbers: &mut [f64]) -> Outcome
     ensures { λ r. ⌜ Spec.left r (now (tangents .exit)) (now (numbers .exit)) ≡ Spec.orthonormalised (now (tangents .entry)) dimension (now (numbers .entry)) ⌝ }
 {

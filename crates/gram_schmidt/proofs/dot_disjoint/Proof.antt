@@ -1,4 +1,4 @@
--- `gram_schmidt::dot_disjoint` meets its contract. The invariant: from what is summed so far, the sum over what is holds is the whole sum.
+-- `gram_schmidt::dot_disjoint` meets its contract. The invariant: from what is summed so far, the sum over what is left is the whole sum.
 use borrow.Author.Needs.{needs}
 use native.Mathlib.Omega.{arith}
 use Prim.Native.Nat.{_≤_, _-_}

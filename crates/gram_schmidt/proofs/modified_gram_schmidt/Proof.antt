@@ -1,3 +1,4 @@
+-- `gram_schmidt::modified_gram_schmidt` meets its contract: the invariant says what is left to do from direction v on.
 use borrow.Author.Needs.{needs}
 use native.Mathlib.Omega.{arith}
 use native.Mathlib.Nat.{div-mul-le-self}

@@ -1,3 +1,4 @@
+-- `gram_schmidt::orthogonalise_once` meets its contract: one pass over the earlier directions.
 use native.Mathlib.Omega.{arith}
 use Prim.Native.Nat.{_≤_, _+_, _-_, _*_}
 use mathlib.Core.Path.{_≡_, refl, sym, _∙_}

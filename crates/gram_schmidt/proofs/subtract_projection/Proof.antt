@@ -1,4 +1,4 @@
--- `gram_schmidt::subtract_projection` meets its contract. The invariant: what is holds to do, done on the list as it is, leaves what the whole leaves of the list at entry.
+-- `gram_schmidt::subtract_projection` meets its contract. The invariant: what is left to do, done on the list as it is, leaves what the whole leaves of the list at entry.
 use native.Mathlib.Omega.{arith}
 use Prim.Native.Nat.{_≤_, _-_}
 use mathlib.Core.Path.{_≡_, refl, sym, _∙_}
