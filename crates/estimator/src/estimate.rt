@@ -47,7 +47,7 @@ fn validate_start(system: System, matrix: &[f64], time: f64, state: &[f64]) -> O
     Outcome::Refused(LyapunovError::InvalidInitialTime)
 }
 
-// The tests 12 and 13, of the lengths of the outputs.
+// The tests 12, of the count of rates, and 13, of the lengths of the outputs.
 fn validate_outputs(
     k: usize,
     d: usize,

@@ -1,9 +1,9 @@
 // Benettin's estimate of the leading Lyapunov exponents (source: estimator.rs).
 //
 // `estimate_spectrum_at` (estimate.rt) is the run that crate benettin defines: its answer and every float left in rows,
-// exponents and final state equal specs/Outputs.antt there, for every input. What is proved of that run, above all that
-// the first rates hold still when more are asked for, so holds of this function: proofs/LeadingOutputs.antt says it. This file
-// has the windows. The state, the directions and their numbers lie in arrays of the caller's frame; nothing is allocated.
+// exponents and final state equal specs/Outputs.antt there, for every input. specs/LeadingOutputs.antt states demand 3 of
+// what this function answers and leaves, and proofs/LeadingOutputs.antt proves it. This file has the run from the draw to
+// the answer. The state, the directions and their numbers lie in arrays on the stack; nothing is allocated.
 pub mod estimate;
 
 ghost use mathlib.Core.Path.{_≡_};
@@ -106,6 +106,7 @@ fn count_faint(faint: [u64; 16], squares: &[f64]) -> [u64; 16]
     let mut out = faint;
     let mut i = 0;
     while i < squares.len() {
+        // 2^-960
         if squares[i] < f64::from_bits(0x03f0_0000_0000_0000) {
             out[i] = out[i] + 1;
         }
@@ -127,7 +128,7 @@ fn add_logs(sums: [f64; 16], logs: &[f64]) -> [f64; 16]
     out
 }
 
-// Each value divided, into a slice of as many.
+// Each value divided by the same number, into a row's part of the same length.
 fn write_rates(row: &mut [f64], values: &[f64], by: f64)
     requires { ⌜ length (now row) ≡ length (now values) ⌝ }
     ensures { λ _. ⌜ now (row .exit) ≡ map (λ x. x ⊘ by) (now (values .entry)) ⌝ }
@@ -139,7 +140,7 @@ fn write_rates(row: &mut [f64], values: &[f64], by: f64)
     }
 }
 
-// End time, locals, runnings.
+// One row: the end time, the locals, the runnings.
 fn write_row(row: &mut [f64], time: f64, logs: &[f64], sums: [f64; 16], duration: f64, elapsed: f64)
     requires { ⌜ (length (now row) ≡ 1 + 2 * length (now logs)) × (length (now logs) ≤ 16) ⌝ }
     ensures { λ _. ⌜ now (row .exit) ≡ time ∷ map (λ x. x ⊘ duration) (now (logs .entry)) ++ map (λ x. x ⊘ elapsed) (take (length (now (logs .entry))) sums) ⌝ }

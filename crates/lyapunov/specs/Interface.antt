@@ -1,4 +1,4 @@
--- Numbers and slices as C hands them over: a system by its number, and a value that is written only where there is one. Definitions only.
+-- Numbers and slices as C hands them over: a system by its number, a value that is written only where there is one, and what a run returns. Definitions only.
 use Prim.Native.Nat.{ℕ}
 use mathlib.Core.Path.{_≡_}
 use mathlib.Core.Bool.{cond}

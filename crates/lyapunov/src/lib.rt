@@ -1,7 +1,8 @@
 // The C interface: flat numbers and slices, exported by `rt staticlib lyapunov`. include/lyapunov.h declares it.
 //
-// Every function is total and hands the promise of the library's own function on: specs/Interface.antt says what a
-// number, a place and a value that is written through a pointer are. A refusal's number is the result, 0 for none.
+// Every function is total and hands the promise of the library's own function on. A refusal's number is the result, 0 for
+// none, as specs/Refusal.antt of crate error has it. specs/Interface.antt says what a system's number means, and what is
+// written through a pointer. specs/Marked.antt is document 01's table of marked examples.
 ghost use mathlib.Core.Path.{_≡_};
 ghost use mathlib.Core.List.{_∷_};
 ghost use Rattle.sqrt.specs.SquareRoot.{root};
@@ -91,6 +92,7 @@ fn report_rate(rate: diagnostics::Rate, out: &mut f64, place: &mut u64) -> u64
     }
 }
 
+// The square root.
 #[no_mangle]
 pub extern "C" fn lyapunov_sqrt(x: f64) -> f64
     ensures { λ r. ⌜ r ≡ root x ⌝ }
@@ -98,7 +100,7 @@ pub extern "C" fn lyapunov_sqrt(x: f64) -> f64
     sqrt::sqrt(x)
 }
 
-// The logarithm goes to out, which a refusal leaves as it is.
+// The logarithm goes to `out`, which a refusal leaves as it is.
 #[no_mangle]
 pub extern "C" fn lyapunov_ln(x: f64, out: &mut f64) -> u64
     ensures { λ r. ⌜ (r ≡ number-of (refusal-in (logarithm x))) × (now (out .exit) ≡ Interface.value-or (now (out .entry)) (logarithm x)) ⌝ }
@@ -136,6 +138,7 @@ pub extern "C" fn lyapunov_splitmix64_symmetric_unit(value: u64) -> f64
     splitmix64::unit(value)
 }
 
+// Directions of `dimension` entries, made orthonormal; `numbers` takes their logarithms, then their squared lengths.
 #[no_mangle]
 pub extern "C" fn lyapunov_modified_gram_schmidt(
     tangents: &mut [f64],
@@ -152,6 +155,7 @@ pub extern "C" fn lyapunov_modified_gram_schmidt(
     report(outcome, place)
 }
 
+// One step of the state and of `count` directions.
 #[no_mangle]
 pub extern "C" fn lyapunov_step(
     kind: u64,
@@ -195,7 +199,8 @@ pub extern "C" fn lyapunov_build_config(
     }
 }
 
-// A run. counts takes the place, the finished measured windows, the steps and the sixteen faint counts; times the final and the measured time.
+// A run. `counts` takes the place, the finished measured windows, the steps and the sixteen faint counts; `times` the final
+// and the measured time.
 #[no_mangle]
 pub extern "C" fn lyapunov_estimate_spectrum_at(
     kind: u64,
