@@ -6,37 +6,21 @@ use native.Mathlib.Nat.{le-of-eq, lt-of-lt-of-le, mul-div-cancel, div-one, zero-
 use native.Mathlib.Omega.{arith}
 use lib.IntN.{ℤ}
 use lib.Dec.{T}
-use lib.Ieee.{Float, nan, inf, fin, binary64, up, down, size, fits, isNan, eq, lt, ne, ofBits, toBits}
+use lib.Ieee.{Float, nan, inf, fin, binary64, up, down, size, fits, isNan, ne, toBits}
 use lib.Ieee.Fits.{down-pos, kept-lt}
 use lib.Ieee.Digits.{size-le}
-use Rattle.floats.specs.Arithmetic.{zero⁺}
-use Rattle.floats.proofs.Zero.{zero-is, zero-equal, minus-infinity-below, negative-below}
-use Rattle.floats.proofs.Finite.{infinity-is}
 use Rattle.floats.proofs.Units.{U, few-digits, under-end-of, some-of}
 
 -- x is finite and above zero
 pub data Ordinary : Float → Type 0 where
   ordinary : (m : ℕ) (e : ℤ) → Ordinary (fin false (suc m) e)
 
-nan-test : ne nan nan ≡ true
-unfolding ne
-nan-test = refl
-
-inf-same : eq (inf false) (inf false) ≡ true
-unfolding eq
-inf-same = refl
-
-ordinary-at : (x : Float) → ne x x ≡ false → eq x zero⁺ ≡ false → lt x zero⁺ ≡ false → eq x (inf false) ≡ false → Ordinary x
-ordinary-at nan a b c d = absurd (true≢false (sym nan-test ∙ a))
-ordinary-at (inf true) a b c d = absurd (true≢false (sym minus-infinity-below ∙ c))
-ordinary-at (inf false) a b c d = absurd (true≢false (sym inf-same ∙ d))
-ordinary-at (fin true zero e) a b c d = absurd (true≢false (sym (zero-equal true e) ∙ b))
-ordinary-at (fin false zero e) a b c d = absurd (true≢false (sym (zero-equal false e) ∙ b))
-ordinary-at (fin true (suc m) e) a b c d = absurd (true≢false (sym (negative-below m e) ∙ c))
-ordinary-at (fin false (suc m) e) a b c d = ordinary m e
-
-pub ordinary-left : (x : Float) → ne x x ≡ false → eq x (ofBits binary64 0) ≡ false → lt x (ofBits binary64 0) ≡ false → eq x (ofBits binary64 0x7ff0_0000_0000_0000) ≡ false → Ordinary x
-ordinary-left x a b c d = ordinary-at x a (ap (eq x) (sym zero-is) ∙ b) (ap (lt x) (sym zero-is) ∙ c) (ap (eq x) (sym infinity-is) ∙ d)
+-- a value that differs from itself is a NaN
+pub equal-no-nan : (x : Float) → ne x x ≡ false → T (not (isNan x))
+unfolding ne isNan
+equal-no-nan nan e = absurd (true≢false e)
+equal-no-nan (inf s) e = tt
+equal-no-nan (fin s m k) e = tt
 
 pub ordinary-no-nan : {x : Float} → Ordinary x → T (not (isNan x))
 unfolding isNan

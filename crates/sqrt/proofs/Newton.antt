@@ -1,4 +1,4 @@
--- Newton's iteration for a whole square root: a step from any guess gives at least the root, and from a guess above the root a smaller one.
+-- Newton's step for a whole square root: from any guess it gives at least the root.
 use mathlib.Core.Path.{_≡_, sym, subst}
 use Prim.Native.Nat.{ℕ, zero, suc, _+_, _-_, _*_, _/_, _≤_, _<_}
 use native.Mathlib.Nat.{le-trans, lt-of-lt-of-le, lt-of-not-le, zero-lt-suc, not-suc-le-zero, lt-suc-self, mul-comm, mul-le-mul-left, div-lt-iff-lt-mul}
@@ -42,7 +42,3 @@ newton-above n r h =
 pub sq-pos : (n r : ℕ) → n < r * r → zero < r
 sq-pos n zero h = absurd (not-suc-le-zero h)
 sq-pos n (suc k) h = zero-lt-suc k
-
--- n / r is below a guess r whose square is above n, and so is their mean
-pub newton-below : (n r : ℕ) → n < r * r → (r + n / r) / 2 < r
-newton-below n r h = let l : n / r < r = div-lt-iff-lt-mul (sq-pos n r h) .1 h in omega arith

@@ -1,7 +1,7 @@
 -- The root of a value of the format is never halfway between two neighbours: the square of an odd number of more than 53 digits, times a power of two, is no number of 53 digits times a power of two.
 use mathlib.Core.Path.{_≡_, sym, ap, _∙_}
 use Prim.Native.Nat.{ℕ, suc, _+_, _-_, _*_, _^_, _≤_, _<_}
-use native.Mathlib.Nat.{le-trans, le-of-eq, lt-of-not-le, not-le-of-lt, mul-assoc, mul-comm, mul-left-comm, mul-one, mul-le-mul-left, eq-of-mul-eq-mul-right, pow-suc}
+use native.Mathlib.Nat.{le-trans, le-of-eq, lt-of-not-le, not-le-of-lt, mul-assoc, mul-left-comm, mul-one, mul-le-mul-left, eq-of-mul-eq-mul-right, pow-suc}
 use native.Mathlib.Omega.{arith}
 use native.Mathlib.Decide.{decLe}
 use lib.Pow.{pow-pos, pow-add}

@@ -1,34 +1,23 @@
--- The values that are answered without a root: a NaN, the zeros, the negative values and the infinity.
+-- The values that are answered without a root: those below zero by a NaN; a NaN, the zeros and the infinity by themselves.
 use mathlib.Core.Path.{_≡_, refl, sym, ap, _∙_}
-use mathlib.Core.Bool.{true, false, true≢false, false≢true}
-use Prim.Native.Nat.{zero, suc}
-use lib.Ieee.{Float, nan, inf, fin, binary64, eq, lt, ne, div, ofBits}
+use mathlib.Core.Bool.{true, false, true≢false}
+use Prim.Native.Nat.{zero, suc, _≤_, _<_}
+use native.Mathlib.Nat.{lt-irrefl, lt-of-lt-of-le}
+use lib.Dec.{T}
+use lib.Ieee.{Float, nan, inf, fin, binary64, fits, lt, ne, div, ofBits, toBits}
 use lib.Ieee.Compare.{differs-from-itself}
 use Rattle.floats.specs.Arithmetic.{zero⁺}
-use Rattle.floats.proofs.Zero.{zero-is, of-true, nonzero-differs, zero-not-below, positive-not-below, infinity-not-below}
-use Rattle.floats.proofs.Finite.{infinity-is}
+use Rattle.floats.proofs.Ordinary.{ordinary, ordinary-pattern}
+use Rattle.floats.proofs.Zero.{zero-is, of-true, zero-not-below, positive-not-below, infinity-not-below, minus-infinity-below, negative-below}
 use Rattle.sqrt.specs.SquareRoot.{root}
 
 pub no-number : div binary64 (ofBits binary64 0) (ofBits binary64 0) ≡ nan
 unfolding div ofBits
 no-number = refl
 
--- ---- each test
 pub nan-root : (x : Float) → ne x x ≡ true → x ≡ root x
 unfolding root
 nan-root x e = let n = differs-from-itself x (of-true e) in n ∙ ap root (sym n)
-
-zero-root-at : (x : Float) → eq x zero⁺ ≡ true → x ≡ root x
-unfolding eq root
-zero-root-at nan h = absurd (false≢true h)
-zero-root-at (inf s) h = absurd (false≢true h)
-zero-root-at (fin true zero e) h = refl
-zero-root-at (fin false zero e) h = refl
-zero-root-at (fin true (suc m) e) h = absurd (nonzero-differs true m e h)
-zero-root-at (fin false (suc m) e) h = absurd (nonzero-differs false m e h)
-
-pub zero-root : (x : Float) → eq x (ofBits binary64 0) ≡ true → x ≡ root x
-zero-root x h = zero-root-at x (ap (eq x) (sym zero-is) ∙ h)
 
 negative-root-at : (x : Float) → lt x zero⁺ ≡ true → nan ≡ root x
 unfolding root
@@ -43,12 +32,13 @@ negative-root-at (fin false (suc m) e) h = absurd (positive-not-below (suc m) e 
 pub negative-root : (x : Float) → lt x (ofBits binary64 0) ≡ true → div binary64 (ofBits binary64 0) (ofBits binary64 0) ≡ root x
 negative-root x h = no-number ∙ negative-root-at x (ap (lt x) (sym zero-is) ∙ h)
 
-infinite-root-at : (x : Float) → eq x (inf false) ≡ true → x ≡ root x
-unfolding root eq
-infinite-root-at nan h = absurd (false≢true h)
-infinite-root-at (inf true) h = absurd (false≢true h)
-infinite-root-at (inf false) h = refl
-infinite-root-at (fin s m e) h = absurd (false≢true h)
-
-pub infinite-root : (x : Float) → eq x (ofBits binary64 0x7ff0_0000_0000_0000) ≡ true → x ≡ root x
-infinite-root x h = infinite-root-at x (ap (eq x) (sym infinity-is) ∙ h)
+-- what is not below zero, and whose pattern is not one of an ordinary value
+pub own-root : (x : Float) → T (fits binary64 x) → (0 < toBits binary64 x → 0x7ff0_0000_0000_0000 ≤ toBits binary64 x) → lt x (ofBits binary64 0) ≡ false → x ≡ root x
+unfolding root ofBits
+own-root nan f h k = refl
+own-root (inf true) f h k = absurd (true≢false (sym minus-infinity-below ∙ k))
+own-root (inf false) f h k = refl
+own-root (fin true zero e) f h k = refl
+own-root (fin false zero e) f h k = refl
+own-root (fin true (suc m) e) f h k = absurd (true≢false (sym (negative-below m e) ∙ k))
+own-root (fin false (suc m) e) f h k = let p = ordinary-pattern f (ordinary m e) in absurd (lt-irrefl _ (lt-of-lt-of-le (p .1) (h (p .0))))

@@ -15,18 +15,35 @@ pub struct WholeRoot {
     pub rest: u64,
 }
 
-// The whole root of a, by Newton's iteration. The first guess is a step from 2^27.
-fn whole_root(a: u64) -> WholeRoot
-    requires { ⌜ (2 ^ 52 ≤ a) × (a < 2 ^ 54) ⌝ }
-    ensures { λ r. ⌜ (r .root * r .root + r .rest ≡ a) × (r .rest ≤ 2 * r .root) × (2 ^ 26 ≤ r .root) × (r .root < 2 ^ 27) ⌝ }
+// Near the root of a * (1 + odd): a cubic polynomial fitted to the root for a from 2^52 to 2^53, times 1 or the root of 2.
+// Nothing rests on how near it is.
+fn guess(a: u64, odd: u64) -> u64
+    requires { ⌜ (2 ^ 52 ≤ a) × (a < 2 ^ 53) × (odd ≤ 1) ⌝ }
+    ensures { λ r. ⌜ (2 ^ 25 ≤ r) × (r < 2 ^ 28) ⌝ }
 {
-    let mut r = (134217728 + a / 134217728) / 2;
-    while a < r * r {
-        r = (r + a / r) / 2;
+    let t = a / 2097152;
+    let square = t * t / 4294967296;
+    let low = 794475297 + 1692052260 * t / 2147483648;
+    let high = 392447558 - 53552716 * t / 2147483648;
+    (low - high * square / 1073741824) * (67108864 + odd * 27797402) / 2147483648
+}
+
+// The whole root of n = a * (1 + odd). One Newton step from any guess is not below the root. The guess is so near that
+// the loop runs at most once, which no proof needs.
+fn whole_root(a: u64, odd: u64) -> WholeRoot
+    requires { ⌜ (2 ^ 52 ≤ a) × (a < 2 ^ 53) × (odd ≤ 1) ⌝ }
+    ensures { λ r. ⌜ (r .root * r .root + r .rest ≡ a * (1 + odd))
+        × (r .rest ≤ 2 * r .root) × (2 ^ 26 ≤ r .root) × (r .root < 2 ^ 27) ⌝ }
+{
+    let n = a * (1 + odd);
+    let g = guess(a, odd);
+    let mut r = (g + n / g) / 2;
+    while n < r * r {
+        r -= 1;
     }
     WholeRoot {
         root: r,
-        rest: a - r * r,
+        rest: n - r * r,
     }
 }
 
@@ -65,7 +82,7 @@ fn scaled_root(a: u64, p: u64) -> f64
     ensures { λ r. ⌜ ((x : Float) → T (fits binary64 x) → Spec.Scaled a p x → r ≡ Spec.root x) ⌝ }
 {
     let k = p / 2;
-    let w = whole_root(a * (1 + p % 2));
+    let w = whole_root(a, p % 2);
     let s = longer_root(w.root, w.rest);
     f64::from_bits(k * 4503599627370496 + (s.root + 1) / 2)
 }
@@ -85,20 +102,21 @@ fn pattern_root(b: u64) -> f64
     }
 }
 
+// The ordinary case comes first, by two comparisons, which a NaN fails.
 pub fn sqrt(x: f64) -> f64
     ensures { λ r. ⌜ r ≡ Spec.root x ⌝ }
 {
     if x != x {
         return x;
     }
-    if x == 0.0 {
-        return x;
+    let b = f64::to_bits(x);
+    if 0 < b {
+        if b < 0x7ff0_0000_0000_0000 {
+            return pattern_root(b);
+        }
     }
     if x < 0.0 {
         return 0.0 / 0.0;
     }
-    if x == f64::from_bits(0x7ff0_0000_0000_0000) {
-        return x;
-    }
-    pattern_root(f64::to_bits(x))
+    x
 }

@@ -1,29 +1,14 @@
 -- `sqrt::scaled_root` meets its contract.
 use mathlib.Core.Path.{ap, _∙_}
-use Prim.Native.Nat.{ℕ, _+_, _*_, _%_, _^_, _≤_, _<_}
-use native.Mathlib.Omega.{arith}
-use native.Mathlib.Nat.{mul-le-mul-left}
+use Prim.Native.Nat.{ℕ, _+_, _*_, _%_, _^_}
 use Rattle.sqrt.proofs.Whole.{RootOf}
 use Rattle.sqrt.proofs.Answer.{root-of-partial, answer-no-nan, scaled-law}
 use borrow.Author.Needs.{needs}
 use Rattle.sqrt.proofs.scaled_root.Statement.{statement}
 use Rattle.sqrt.proofs.scaled_root.Tie as tie
 
--- the significand, doubled where p is odd, has 53 or 54 digits
-doubled : (a r : ℕ) → 2 ^ 52 ≤ a → a < 2 ^ 53 → r < 2 → (2 ^ 52 ≤ a * (1 + r)) × (a * (1 + r) < 2 ^ 54)
-doubled a r h k l = let u = mul-le-mul-left {m = 1 + r} {n = 2} a (omega arith) in let v = mul-le-mul-left {m = 1} {n = 1 + r} a (omega arith) in (omega arith, omega arith)
-
-rest-lt : (p : ℕ) → p % 2 < 2
-rest-lt p = omega arith
-
-add-whole-root : tie.Need-add-whole-root
-add-whole-root c = search needs
-
-mul-whole-root : tie.Need-mul-whole-root
-mul-whole-root c = let d = doubled (c .args .a) (c .args .p % 2) (c .pre .0) (c .pre .1) (rest-lt (c .args .p)) in omega arith
-
 whole-root-requires : tie.Need-whole-root-requires
-whole-root-requires c κs = doubled (c .args .a) (c .args .p % 2) (c .pre .0) (c .pre .1) (rest-lt (c .args .p))
+whole-root-requires c κs = search needs
 
 longer-root-requires : tie.Need-longer-root-requires
 longer-root-requires c κs = search needs
@@ -56,8 +41,6 @@ pub scaled-root-spec : {M : Type 1} → statement M
 scaled-root-spec =
     tie.close
     (tie.spec
-    add-whole-root
-    mul-whole-root
     whole-root-requires
     longer-root-requires
     mul-result
