@@ -22,7 +22,7 @@ use Rattle.gram_schmidt.proofs.Loops.{orthogonalise-length}
 use Rattle.error.specs.Refusal.{refuse}
 use Rattle.error.specs.declared.Refusal.{Refusal}
 use Rattle.floats.specs.Arithmetic.{_⊘_, zero⁺}
-use Rattle.floats.specs.Vector.{part, chunks, concat}
+use Rattle.floats.specs.Vector.{dot-from, part, chunks, concat}
 use Rattle.floats.proofs.Sets.{part-length, part-sets, sets-over, sets-own, sets-append, set-sets, take-before, drop-behind}
 use Rattle.floats.proofs.Vector.{chunks-sets, chunks-snoc, concat-chunks}
 
@@ -38,16 +38,32 @@ divided-length w = chosen-length (collapsed (root (squared-length w))) w (root (
 pub cleared-length : (d v : ℕ) (xs : List Float) → v * d + d ≤ length xs → length (cleared d v xs) ≡ d
 cleared-length d v xs g = orthogonalise-length zero⁺ (chunks d v xs) _ ∙ orthogonalise-length zero⁺ (chunks d v xs) _ ∙ part-length (v * d) d xs g
 
--- cleared once, and once more
-twice : (d v : ℕ) (xs ys zs : List Float) → v * d + d ≤ length xs
+-- of the slice zs in which direction v is cleared
+pub cleared-part : (d v : ℕ) (xs zs : List Float) → v * d + d ≤ length xs → zs ≡ sets xs (v * d) (cleared d v xs) → part (v * d) d zs ≡ cleared d v xs
+cleared-part d v xs zs g q = rw q (part-sets xs (v * d) (cleared d v xs) d (cleared-length d v xs g) g)
+
+-- with none before it, a direction is cleared as it is; q is its product with the first one, which is itself
+pub cleared-first : (d v : ℕ) (xs : List Float) (q : Float) → v ≡ 0 → v * d + d ≤ length xs → q ≡ dot-from zero⁺ (part 0 d xs) (part (v * d) (v * d + d - v * d) xs)
+    → (xs ≡ sets xs (v * d) (cleared d v xs)) × (q ≡ squared-length (cleared d v xs))
+unfolding orthogonalise chunks
+cleared-first d v xs q e g f =
+    let z : v * d ≡ 0 = rw e (zero-mul d) in
+    let k : v * d + d - v * d ≡ d = add-sub-cancel-left (v * d) d in
+    (rw e (sym (sets-own xs (0 * d) d (rw e at g))), f ∙ rw (k, e, zero-mul))
+
+-- cleared once, and once more; q is what the second time answers
+pub cleared-twice : (d v : ℕ) (xs ys zs : List Float) (q : Float) → v * d + d ≤ length xs
     → ys ≡ sets xs (v * d) (orthogonalise zero⁺ (chunks d v xs) (part (v * d) d xs))
     → zs ≡ sets ys (v * d) (orthogonalise zero⁺ (chunks d v ys) (part (v * d) d ys))
-    → zs ≡ sets xs (v * d) (cleared d v xs)
-twice d v xs ys zs g e f =
+    → q ≡ squared-length (part (v * d) d zs)
+    → (zs ≡ sets xs (v * d) (cleared d v xs)) × (q ≡ squared-length (cleared d v xs))
+cleared-twice d v xs ys zs q g e f h =
     let w = orthogonalise zero⁺ (chunks d v xs) (part (v * d) d xs) in
     let k : length w ≡ d = orthogonalise-length zero⁺ (chunks d v xs) _ ∙ part-length (v * d) d xs g in
     let m : length (cleared d v xs) ≡ d = cleared-length d v xs g in
-    f ∙ rw (e, part-sets xs (v * d) w d k g, chunks-sets d v 0 xs (v * d) w (omega arith)) (sets-over xs (v * d) w (cleared d v xs) (omega arith) (omega arith))
+    let r : zs ≡ sets xs (v * d) (cleared d v xs) =
+    f ∙ rw (e, part-sets xs (v * d) w d k g, chunks-sets d v 0 xs (v * d) w (omega arith)) (sets-over xs (v * d) w (cleared d v xs) (omega arith) (omega arith)) in
+    (r, h ∙ ap squared-length (cleared-part d v xs zs g r))
 
 -- a part that is put back
 put-back : (xs : List Float) (t d : ℕ) (w us : List Float) → t + d ≤ length xs → length w ≡ d → length us ≡ d
@@ -56,17 +72,14 @@ put-back xs t d w us g k m =
     rw (drop-drop d t (sets xs t w), take-before t xs t w (omega arith), drop-behind (t + d) xs t w (omega arith), ← m)
     (sym (append-assoc (take t xs) us (drop (t + length us) xs)) ∙ sym (sets-eq us xs t (omega arith)))
 
-pub direction : (d v : ℕ) (xs ys zs us : List Float) (r : Normalised) → v * d + d ≤ length xs
-    → ys ≡ sets xs (v * d) (orthogonalise zero⁺ (chunks d v xs) (part (v * d) d xs))
-    → zs ≡ sets ys (v * d) (orthogonalise zero⁺ (chunks d v ys) (part (v * d) d ys))
+pub direction : (d v : ℕ) (xs zs us : List Float) (r : Normalised) → v * d + d ≤ length xs → zs ≡ sets xs (v * d) (cleared d v xs)
     → (r ≡ normalised (part (v * d) (v * d + d - v * d) zs)) × (us ≡ divided (part (v * d) (v * d + d - v * d) zs))
     → (r ≡ normalised (cleared d v xs)) × (putMid (v * d) (v * d + d - v * d) zs us ≡ sets xs (v * d) (divided (cleared d v xs)))
-direction d v xs ys zs us r g e f h =
+direction d v xs zs us r g q h =
     let w = cleared d v xs in
     let m : length w ≡ d = cleared-length d v xs g in
-    let q : zs ≡ sets xs (v * d) w = twice d v xs ys zs g e f in
     let k : v * d + d - v * d ≡ d = add-sub-cancel-left (v * d) d in
-    let p : part (v * d) (v * d + d - v * d) zs ≡ w = rw (k, q) (part-sets xs (v * d) w d m g) in
+    let p : part (v * d) (v * d + d - v * d) zs ≡ w = rw k (cleared-part d v xs zs g q) in
     let u : us ≡ divided w = h .1 ∙ ap divided p in
     (h .0 ∙ ap normalised p, rw (k, q, u) (put-back xs (v * d) d w (divided w) g m (divided-length w ∙ m)))
 

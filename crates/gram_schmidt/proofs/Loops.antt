@@ -1,13 +1,13 @@
 -- What the loops go by: one more turn, and the end. What is left to do is a function of the list as it is and of the index.
 use Prim.Native.Nat.{ℕ, suc, _+_, _-_, _*_, _≤_, _<_}
-use native.Mathlib.Nat.{suc-mul, zero-mul, sub-zero, add-zero, add-mul, add-sub-cancel-left}
+use native.Mathlib.Nat.{suc-mul, zero-mul, sub-zero, add-zero, add-mul}
 use native.Mathlib.Numerals.{add-one}
 use native.Mathlib.Omega.{arith}
 use mathlib.Core.Path.{_≡_, refl, sym, ap, _∙_}
 use mathlib.Core.List.{List, [], _∷_}
-use lib.ListN.{length, drop, getD, set}
-use lib.Seq.{sets, drop-set-lt, drop-drop}
-use lib.Ieee.{Float, nan, binary64, sub, mul}
+use lib.ListN.{length, drop, getD, set, length-set}
+use lib.Seq.{sets, length-sets, drop-set-lt, drop-drop, getD-set-same, getD-set-other}
+use lib.Ieee.{Float, nan, binary64, add, sub, mul}
 use Rattle.gram_schmidt.specs.Orthonormalise.{subtract-projection, orthogonalise}
 use Rattle.floats.specs.Arithmetic.{zero⁺}
 use Rattle.floats.specs.Vector.{dot-from, part, chunks}
@@ -22,14 +22,22 @@ subtract-length p [] b = refl
 subtract-length p (x ∷ v) [] = refl
 subtract-length p (x ∷ v) (y ∷ b) = ap suc (subtract-length p v b)
 
+-- the entry that turn i writes
+abbrev pub entry : Float → ℕ → ℕ → List Float → ℕ → Float
+entry p b t xs i = sub binary64 (getD xs (t + i) nan) (mul binary64 p (getD xs (b + i) nan))
+
+-- the entries from turn i on
+abbrev rest : Float → ℕ → ℕ → ℕ → List Float → ℕ → List Float
+rest p b t d xs i = subtract-projection p (part (t + i) (d - i) xs) (part (b + i) (d - i) xs)
+
 abbrev pub subtracting : Float → ℕ → ℕ → ℕ → List Float → ℕ → List Float
-subtracting p b t d xs i = sets xs (t + i) (subtract-projection p (part (t + i) (d - i) xs) (part (b + i) (d - i) xs))
+subtracting p b t d xs i = sets xs (t + i) (rest p b t d xs i)
 
 pub subtract-next : (p : Float) (b t d : ℕ) (xs : List Float) (i : ℕ) → i < d → b + d ≤ t → t + d ≤ length xs
-    → subtracting p b t d xs i ≡ subtracting p b t d (set xs (t + i) (sub binary64 (getD xs (t + i) nan) (mul binary64 p (getD xs (b + i) nan)))) (i + 1)
+    → subtracting p b t d xs i ≡ subtracting p b t d (set xs (t + i) (entry p b t xs i)) (i + 1)
 unfolding subtract-projection
 subtract-next p b t d xs i h g k =
-    let z = sub binary64 (getD xs (t + i) nan) (mul binary64 p (getD xs (b + i) nan)) in
+    let z = entry p b t xs i in
     let m = d - (i + 1) in
     let e₁ : d - i ≡ suc m = omega arith in
     let e₂ : t + (i + 1) ≡ suc (t + i) = omega arith in
@@ -44,6 +52,38 @@ subtract-end p b t d xs i h =
 
 pub subtract-start : (p : Float) (b t d : ℕ) (xs : List Float) → subtracting p b t d xs 0 ≡ sets xs t (subtract-projection p (part t d xs) (part b d xs))
 subtract-start p b t d xs = simp (add-zero, sub-zero)
+
+-- ---- the product that is summed beside it, over the list as the loop leaves it
+
+getD-before : (l : List Float) (j : ℕ) (w : List Float) (k : ℕ) → k < j → getD (sets l j w) k nan ≡ getD l k nan
+getD-before l j [] k h = refl
+getD-before l j (x ∷ w) k h = getD-before (set l j x) (suc j) w k (omega arith) ∙ getD-set-other l j k x nan (λ e. omega arith)
+
+abbrev pub summing : ℕ → ℕ → ℕ → List Float → Float → ℕ → Float
+summing n t d zs s i = dot-from s (part (n + i) (d - i) zs) (part (t + i) (d - i) zs)
+
+-- zs is what the list is left as: nothing before the entry that turn i writes is written any more
+pub sum-next : (p : Float) (n b t d : ℕ) (xs zs : List Float) (s : Float) (i : ℕ) → i < d → n ≤ t → t + d ≤ length xs
+    → zs ≡ subtracting p b t d (set xs (t + i) (entry p b t xs i)) (i + 1)
+    → summing n t d zs s i ≡ summing n t d zs (add binary64 s (mul binary64 (getD (set xs (t + i) (entry p b t xs i)) (n + i) nan) (entry p b t xs i))) (i + 1)
+unfolding dot-from
+sum-next p n b t d xs zs s i h g k e =
+    let ys = set xs (t + i) (entry p b t xs i) in
+    let m : length zs ≡ length xs = ap length e ∙ length-sets ys (t + (i + 1)) (rest p b t d ys (i + 1)) ∙ length-set xs (t + i) (entry p b t xs i) in
+    let kept : (j : ℕ) → j < t + (i + 1) → getD zs j nan ≡ getD ys j nan = λ j l. rw e (getD-before ys (t + (i + 1)) (rest p b t d ys (i + 1)) j l) in
+    let e₁ : d - i ≡ suc (d - (i + 1)) = omega arith in
+    let e₂ : t + (i + 1) ≡ suc (t + i) = omega arith in
+    let e₃ : n + (i + 1) ≡ suc (n + i) = omega arith in
+    let a = kept (n + i) (omega arith) in
+    let z = kept (t + i) (omega arith) ∙ getD-set-same xs (t + i) (entry p b t xs i) nan (omega arith) in
+    rw (e₁, e₂, e₃, part-cons (n + i) (d - (i + 1)) zs (omega arith), part-cons (t + i) (d - (i + 1)) zs (omega arith), a, z)
+
+pub sum-end : (n t d : ℕ) (zs : List Float) (s : Float) (i : ℕ) → d ≤ i → summing n t d zs s i ≡ s
+unfolding dot-from
+sum-end n t d zs s i h = let e : d - i ≡ 0 = omega arith in rw e
+
+pub sum-start : (n t d : ℕ) (zs : List Float) (s : Float) → summing n t d zs s 0 ≡ dot-from s (part n d zs) (part t d zs)
+sum-start n t d zs s = simp (add-zero, sub-zero)
 
 -- ---- a direction cleared of each earlier one
 
@@ -85,11 +125,9 @@ orthogonalise-end d v xs p h g =
 pub orthogonalise-start : (d v : ℕ) (xs : List Float) → orthogonalising d v xs 0 ≡ sets xs (v * d) (orthogonalise zero⁺ (chunks d v xs) (part (v * d) d xs))
 orthogonalise-start d v xs = simp (zero-mul, sub-zero)
 
--- a turn as the code has it: r is the product, over parts given by their ends
+-- a turn as the code has it: r is the product
 pub orthogonalise-turn : (d v : ℕ) (xs : List Float) (p : ℕ) (r : Float) (ys : List Float) → p < v → v * d + d ≤ length xs
-    → r ≡ dot-from zero⁺ (part (p * d) (p * d + d - p * d) xs) (part (v * d) (v * d + d - v * d) xs)
+    → r ≡ dot-from zero⁺ (part (p * d) d xs) (part (v * d) d xs)
     → ys ≡ sets xs (v * d) (subtract-projection r (part (v * d) d xs) (part (p * d) d xs))
     → orthogonalising d v xs p ≡ orthogonalising d v ys (p + 1)
-orthogonalise-turn d v xs p r ys h g e f =
-    let e′ : r ≡ dot-from zero⁺ (part (p * d) d xs) (part (v * d) d xs) = simp add-sub-cancel-left at e in
-    rw (f, e′) (orthogonalise-next d v xs p h g)
+orthogonalise-turn d v xs p r ys h g e f = rw (f, e) (orthogonalise-next d v xs p h g)

@@ -1,6 +1,6 @@
 -- Document 01, "Orthonormalise", called alone: its tests 7 and 13, then 14, and what the two slices hold afterwards. Definitions only.
 use Prim.Native.Nat.{ℕ, _*_, _/_}
-use mathlib.Core.Bool.{Bool, true, false, cond}
+use mathlib.Core.Bool.{cond}
 use mathlib.Core.List.{List, [], map}
 use mathlib.Core.Option.{Option, none, some}
 use lib.Dec.{eqb, ltb}
@@ -32,13 +32,9 @@ euclidean = record { start = zero⁺; norm = λ v. root (squared-length v); repo
 abbrev pub cleared : ℕ → ℕ → List Float → List Float
 cleared d v xs = orthogonalise zero⁺ (chunks d v xs) (orthogonalise zero⁺ (chunks d v xs) (part (v * d) d xs))
 
-abbrev pub pick : Bool → Normalised → Normalised → Normalised
-pick true a b = a
-pick false a b = b
-
 -- its logarithm and its squared length, unless it collapsed
 abbrev pub normalised : List Float → Normalised
-normalised w = pick (collapsed (root (squared-length w))) Collapsed (By (log (root (squared-length w))) (squared-length w))
+normalised w = cond (collapsed (root (squared-length w))) Collapsed (By (log (root (squared-length w))) (squared-length w))
 
 abbrev pub divided : List Float → List Float
 divided w = cond (collapsed (root (squared-length w))) w (map (λ x. x ⊘ root (squared-length w)) w)
@@ -63,17 +59,13 @@ unfoldable pub stored : ℕ → List Float → List Float → Basis → Left
 unfolding concat
 stored n xs out b = holds (collapse-refusal (b .collapse)) (sets xs 0 (concat (b .directions))) (sets (sets out n (b .reports)) 0 (b .logs))
 
-abbrev pub choose : Bool → Left → Left → Left
-choose true a b = a
-choose false a b = b
-
 -- of the slice xs as directions of d entries, with out for the numbers
 unfoldable pub orthonormalised : List Float → ℕ → List Float → Left
 unfolding stored orthonormalise chunks
 orthonormalised xs d out =
     let n = length xs / d in
-    choose (eqb d 0) (holds (some (refuse 7 0)) xs out)
-    (choose (ltb (length out) (2 * n)) (holds (some (refuse 13 0)) xs out)
+    cond (eqb d 0) (holds (some (refuse 7 0)) xs out)
+    (cond (ltb (length out) (2 * n)) (holds (some (refuse 13 0)) xs out)
     (stored n xs out (orthonormalise euclidean [] (chunks d n xs))))
 
 -- what the code's answer and its slices stand for

@@ -4,7 +4,7 @@
 // answer, and every float left in both slices. specs/Orthonormalise.antt has the operations on one direction after the
 // other. proofs/Degenerate.antt shows that a collapse means a squared length of 0 or one that is not finite.
 ghost use mathlib.Core.Path.{_≡_};
-ghost use Prim.Native.Nat.{_+_, _*_, _≤_};
+ghost use Prim.Native.Nat.{_+_, _*_, _≤_, _<_};
 ghost use mathlib.Core.List.{map};
 ghost use lib.ListN.{length};
 ghost use lib.Seq.{sets};
@@ -35,34 +35,65 @@ fn dot_disjoint<'a>(a: &'a [f64], b: &'a [f64]) -> f64
     s
 }
 
-// The direction at target less p times the one at basis.
-fn subtract_projection(values: &mut [f64], basis: usize, target: usize, d: usize, p: f64)
-    requires { ⌜ (basis + d ≤ target) × (target + d ≤ length (now values)) ⌝ }
-    ensures { λ _. ⌜ now (values .exit) ≡ sets (now (values .entry)) target (subtract-projection p (part target d (now (values .entry))) (part basis d (now (values .entry)))) ⌝ }
+// The direction at target less p times the one at basis. Answers the dot product of the one at next with what is left,
+// which may be the one at target itself. One loop does both: the subtractions cost nothing while the sum waits for itself.
+fn subtract_projection(
+    values: &mut [f64],
+    basis: usize,
+    next: usize,
+    target: usize,
+    d: usize,
+    p: f64,
+) -> f64
+    requires { ⌜ (basis + d ≤ target) × (next ≤ target) × (target + d ≤ length (now values)) ⌝ }
+    ensures { λ r. ⌜ (now (values .exit) ≡ sets (now (values .entry)) target (subtract-projection p (part target d (now (values .entry))) (part basis d (now (values .entry)))))
+        × (r ≡ dot-from zero⁺ (part next d (now (values .exit))) (part target d (now (values .exit)))) ⌝ }
 {
+    let mut product = 0.0;
     let mut i = 0;
     while i < d {
-        values[target + i] = values[target + i] - p * values[basis + i];
+        let x = values[target + i] - p * values[basis + i];
+        values[target + i] = x;
+        product = product + values[next + i] * x;
         i += 1;
     }
+    product
 }
 
-// The direction at v * d, cleared once of each earlier one.
-fn orthogonalise_once(values: &mut [f64], v: usize, d: usize)
+// The direction at v * d, cleared once of each earlier one. `first` is its dot product with the first of them. Answers
+// the dot product of the one at last with what is left.
+fn orthogonalise_once(values: &mut [f64], v: usize, d: usize, first: f64, last: usize) -> f64
+    requires { ⌜ (0 < v) × (v * d + d ≤ length (now values)) × (last ≤ v * d) × (first ≡ dot-from zero⁺ (part 0 d (now values)) (part (v * d) d (now values))) ⌝ }
+    ensures { λ r. ⌜ (now (values .exit) ≡ sets (now (values .entry)) (v * d) (orthogonalise zero⁺ (chunks d v (now (values .entry))) (part (v * d) d (now (values .entry)))))
+        × (r ≡ dot-from zero⁺ (part last d (now (values .exit))) (part (v * d) d (now (values .exit)))) ⌝ }
+{
+    let target = v * d;
+    let mut c = first;
+    let mut p = 0;
+    while p + 1 < v {
+        let basis = p * d;
+        let next = basis + d;
+        c = subtract_projection(values, basis, next, target, d, c);
+        p += 1;
+    }
+    subtract_projection(values, p * d, last, target, d, c)
+}
+
+// The direction at v * d, cleared twice of each earlier one. Answers its squared length.
+fn orthogonalise(values: &mut [f64], v: usize, d: usize) -> f64
     requires { ⌜ v * d + d ≤ length (now values) ⌝ }
-    ensures { λ _. ⌜ now (values .exit) ≡ sets (now (values .entry)) (v * d) (orthogonalise zero⁺ (chunks d v (now (values .entry))) (part (v * d) d (now (values .entry)))) ⌝ }
+    ensures { λ r. ⌜ (now (values .exit) ≡ sets (now (values .entry)) (v * d) (Spec.cleared d v (now (values .entry))))
+        × (r ≡ Spec.squared-length (Spec.cleared d v (now (values .entry)))) ⌝ }
 {
     let target = v * d;
     let e = target + d;
-    let mut p = 0;
-    while p < v {
-        let basis = p * d;
-        let f = basis + d;
-        let w = &values[..];
-        let c = dot_disjoint(&w[basis..f], &w[target..e]);
-        subtract_projection(values, basis, target, d, c);
-        p += 1;
+    let w = &values[..];
+    let first = dot_disjoint(&w[..d], &w[target..e]);
+    if v == 0 {
+        return first;
     }
+    let again = orthogonalise_once(values, v, d, first, 0);
+    orthogonalise_once(values, v, d, again, target)
 }
 
 // Each entry divided.
@@ -77,11 +108,10 @@ fn divide(s: &mut [f64], by: f64)
 }
 
 // A cleared direction is divided by its length, or it collapsed.
-fn normalise(s: &mut [f64]) -> Normalised
+fn normalise(s: &mut [f64], squared: f64) -> Normalised
+    requires { ⌜ squared ≡ Spec.squared-length (now s) ⌝ }
     ensures { λ r. ⌜ (r ≡ Spec.normalised (now (s .entry))) × (now (s .exit) ≡ Spec.divided (now (s .entry))) ⌝ }
 {
-    let w = &s[..];
-    let squared = dot_disjoint(w, w);
     let norm = sqrt::sqrt(squared);
     if norm <= f64::from_bits(0x0010_0000_0000_0000) {
         return Normalised::Collapsed;
@@ -102,11 +132,10 @@ fn orthonormalise_at(tangents: &mut [f64], v: usize, d: usize) -> Normalised
     ensures { λ r. ⌜ (r ≡ Spec.normalised (Spec.cleared d v (now (tangents .entry))))
         × (now (tangents .exit) ≡ sets (now (tangents .entry)) (v * d) (Spec.divided (Spec.cleared d v (now (tangents .entry))))) ⌝ }
 {
-    orthogonalise_once(tangents, v, d);
-    orthogonalise_once(tangents, v, d);
+    let squared = orthogonalise(tangents, v, d);
     let a = v * d;
     let e = a + d;
-    normalise(&mut tangents[a..e])
+    normalise(&mut tangents[a..e], squared)
 }
 
 // Orthonormalises the directions of `dimension` entries that lie one after the other in `tangents`. `numbers` takes their

@@ -5,9 +5,6 @@ use borrow.Author.Needs.{needs}
 use Rattle.gram_schmidt.proofs.normalise.Statement.{statement}
 use Rattle.gram_schmidt.proofs.normalise.Tie as tie
 
-dot-disjoint-requires : tie.Need-dot-disjoint-requires
-dot-disjoint-requires c κs = search needs
-
 sqrt-requires : tie.Need-sqrt-requires
 sqrt-requires c κs = search needs
 
@@ -15,13 +12,11 @@ float-from-bits-if1 : tie.Need-float-from-bits-if1
 unfolding nanBits
 float-from-bits-if1 c = tt
 
-same-length : tie.Need-same-length
-same-length c = search needs
-
 returns : tie.Need-returns
 unfolding ofBits
 returns c =
-    norm-collapsed (c .before .before .before .before .before .args .s .now) (c .before .before .dot-disjoint .result) (c .before .sqrt .result) (c .before .before .dot-disjoint .ensures) (c .before .sqrt .ensures) (low _ (c .if1 .taken))
+    let a = c .before .before .before in
+    norm-collapsed (a .args .s .now) (a .args .squared) (c .before .sqrt .result) (a .pre) (c .before .sqrt .ensures) (low _ (c .if1 .taken))
 
 float-from-bits-if2 : tie.Need-float-from-bits-if2
 unfolding nanBits
@@ -36,9 +31,6 @@ enum-known-l c = search needs
 enum-told : tie.Need-enum-told
 enum-told c = search needs
 
-same-length-2 : tie.Need-same-length-2
-same-length-2 c = search needs
-
 returns-2 : tie.Need-returns-2
 unfolding ofBits
 returns-2 c =
@@ -48,8 +40,8 @@ returns-2 c =
 divide-requires : tie.Need-divide-requires
 divide-requires c κs = search needs
 
-same-length-3 : tie.Need-same-length-3
-same-length-3 c = search needs
+same-length : tie.Need-same-length
+same-length c = search needs
 
 returns-3 : tie.Need-returns-3
 unfolding ofBits
@@ -57,35 +49,29 @@ returns-3 c =
     let m = c .before .before .before .before .before in
     let b = m .before .before .before in
     let r = b .before .before in
-    norm-divided (r .before .before .before .before .args .s .now) (r .before .dot-disjoint .result) (r .sqrt .result) (m .l .given .0 .0) (c .before .before .divide .last .0)
-    (r .before .dot-disjoint .ensures) (r .sqrt .ensures) (held _ (b .before .if1 .left) (b .if2 .taken))
+    let a = r .before .before in
+    norm-divided (a .args .s .now) (a .args .squared) (r .sqrt .result) (m .l .given .0 .0) (c .before .before .divide .last .0) (a .pre) (r .sqrt .ensures) (held _ (b .before .if1 .left) (b .if2 .taken))
     (log-value _ _ _ (normal-held _ (b .before .if1 .left) (b .if2 .taken)) (m .before .before .ln .ensures) (m .l .given .1)) (c .before .before .divide .ensures)
-
-same-length-4 : tie.Need-same-length-4
-same-length-4 c = search needs
 
 returns-4 : tie.Need-returns-4
 unfolding ofBits
 returns-4 c =
-    norm-collapsed (c .before .before .before .before .before .before .args .s .now) (c .before .before .before .dot-disjoint .result) (c .before .before .sqrt .result) (c .before .before .before .dot-disjoint .ensures) (c .before .before .sqrt .ensures) (high _ (c .if2 .left))
+    let a = c .before .before .before .before in
+    norm-collapsed (a .args .s .now) (a .args .squared) (c .before .before .sqrt .result) (a .pre) (c .before .before .sqrt .ensures) (high _ (c .if2 .left))
 
 pub normalise-spec : {M : Type 1} → statement M
 normalise-spec =
     tie.close
     (tie.spec
-    dot-disjoint-requires
     sqrt-requires
     float-from-bits-if1
-    same-length
     returns
     float-from-bits-if2
     ln-requires
     enum-known-l
     enum-told
-    same-length-2
     returns-2
     divide-requires
-    same-length-3
+    same-length
     returns-3
-    same-length-4
     returns-4)

@@ -1,14 +1,14 @@
--- `gram_schmidt::orthonormalise_at` meets its contract, by what the three calls ensure.
-use Rattle.gram_schmidt.proofs.Directions.{direction}
+-- `gram_schmidt::orthonormalise_at` meets its contract, by what the two calls ensure.
+use native.Mathlib.Nat.{add-sub-cancel-left}
+use mathlib.Core.Path.{sym, ap, _∙_}
+use Rattle.gram_schmidt.specs.GramSchmidt.{squared-length}
+use Rattle.gram_schmidt.proofs.Directions.{cleared-part, direction}
 use borrow.Author.Needs.{needs}
 use Rattle.gram_schmidt.proofs.orthonormalise_at.Statement.{statement}
 use Rattle.gram_schmidt.proofs.orthonormalise_at.Tie as tie
 
-orthogonalise-once-requires : tie.Need-orthogonalise-once-requires
-orthogonalise-once-requires c κs = search needs
-
-orthogonalise-once-requires-2 : tie.Need-orthogonalise-once-requires-2
-orthogonalise-once-requires-2 c κs = search needs
+orthogonalise-requires : tie.Need-orthogonalise-requires
+orthogonalise-requires c κs = search needs
 
 mul-a : tie.Need-mul-a
 mul-a c = search needs
@@ -29,7 +29,10 @@ part-normalise-end : tie.Need-part-normalise-end
 part-normalise-end c = search needs
 
 normalise-requires : tie.Need-normalise-requires
-normalise-requires c κs = search needs
+normalise-requires c κs =
+    let o = c .before .before .before .orthogonalise in
+    let a = c .before .before .before .before .before .before .args in
+    o .ensures .1 ∙ ap squared-length (sym (rw add-sub-cancel-left (cleared-part (a .d) (a .v) (a .tangents .now) (o .last .0) (c .before .before .before .before .before .before .pre) (o .ensures .0))))
 
 same-length : tie.Need-same-length
 same-length c = search needs
@@ -37,16 +40,14 @@ same-length c = search needs
 returns : tie.Need-returns
 returns c =
     let b = c .before .before .before .before .before .before in
-    let s = b .before .before .before .before .before .before .before in
-    direction (s .args .d) (s .args .v) (s .args .tangents .now) (b .before .before .before .before .orthogonalise-once .last .0) (b .orthogonalise-once2 .last .0) (c .before .before .normalise .last .0) _
-    (s .pre) (b .before .before .before .before .orthogonalise-once .ensures) (b .orthogonalise-once2 .ensures) (c .before .before .normalise .ensures)
+    let s = b .before .before .before in
+    direction (s .args .d) (s .args .v) (s .args .tangents .now) (b .orthogonalise .last .0) (c .before .before .normalise .last .0) _ (s .pre) (b .orthogonalise .ensures .0) (c .before .before .normalise .ensures)
 
 pub orthonormalise-at-spec : {M : Type 1} → statement M
 orthonormalise-at-spec =
     tie.close
     (tie.spec
-    orthogonalise-once-requires
-    orthogonalise-once-requires-2
+    orthogonalise-requires
     mul-a
     add-e
     mul-normalise

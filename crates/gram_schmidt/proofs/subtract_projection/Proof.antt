@@ -1,20 +1,44 @@
--- `gram_schmidt::subtract_projection` meets its contract. The invariant: what is left to do, done on the list as it is, leaves what the whole leaves of the list at entry.
+-- `gram_schmidt::subtract_projection` meets its contract. The invariant: what is left to do, done on the list as it is, leaves what the whole leaves of the list at entry; and so with the sum.
 use native.Mathlib.Omega.{arith}
-use Prim.Native.Nat.{_≤_, _-_}
-use mathlib.Core.Path.{_≡_, refl, sym, _∙_}
+use Prim.Native.Nat.{_≤_, _+_, _-_}
+use mathlib.Core.Path.{_≡_, refl, sym, ap, _∙_}
 use lib.ListN.{length, length-set}
-use Rattle.gram_schmidt.proofs.Loops.{subtracting, subtract-start, subtract-next, subtract-end}
+use lib.Ieee.{ofBits}
+use Rattle.floats.specs.Arithmetic.{zero⁺}
+use Rattle.floats.specs.Vector.{dot-from, part}
+use Rattle.gram_schmidt.proofs.Loops.{entry, subtracting, subtract-start, subtract-next, subtract-end, summing, sum-start, sum-next, sum-end}
 use Rattle.gram_schmidt.proofs.subtract_projection.Statement.{statement}
 use Rattle.gram_schmidt.proofs.subtract_projection.Tie as tie
 
 abbrev Inv-loop : tie.InvT-loop
-Inv-loop values₀ basis target d p i₀ values i = (i ≤ d) × (length values ≡ length values₀) × (subtracting p basis target d values₀ 0 ≡ subtracting p basis target d values i)
+Inv-loop values₀ basis next target d p product₀ i₀ values product i =
+    (i ≤ d) × (length values ≡ length values₀) × (subtracting p basis target d values₀ 0 ≡ subtracting p basis target d values i)
+    × (summing next target d (subtracting p basis target d values₀ 0) zero⁺ 0 ≡ summing next target d (subtracting p basis target d values₀ 0) product i)
 
 abbrev μ-loop : tie.MeasureT-loop
-μ-loop values₀ basis target d p i₀ values i = d - i
+μ-loop values₀ basis next target d p product₀ i₀ values product i = d - i
 
 loop-holds : tie.Need-loop-holds Inv-loop μ-loop
-loop-holds c = (omega arith, refl, refl)
+unfolding ofBits
+loop-holds c = (omega arith, refl, refl, refl)
+
+add-x : tie.Need-add-x Inv-loop μ-loop
+add-x c = omega arith
+
+mul-x : tie.Need-mul-x Inv-loop μ-loop
+mul-x c = omega arith
+
+slice-read-x : tie.Need-slice-read-x Inv-loop μ-loop
+slice-read-x c = omega arith
+
+add-x-2 : tie.Need-add-x-2 Inv-loop μ-loop
+add-x-2 c = omega arith
+
+mul-x-2 : tie.Need-mul-x-2 Inv-loop μ-loop
+mul-x-2 c = omega arith
+
+slice-read-x-2 : tie.Need-slice-read-x-2 Inv-loop μ-loop
+slice-read-x-2 c = omega arith
 
 add-values : tie.Need-add-values Inv-loop μ-loop
 add-values c = omega arith
@@ -22,26 +46,20 @@ add-values c = omega arith
 mul-values : tie.Need-mul-values Inv-loop μ-loop
 mul-values c = omega arith
 
-slice-read-values : tie.Need-slice-read-values Inv-loop μ-loop
-slice-read-values c = omega arith
-
-add-values-2 : tie.Need-add-values-2 Inv-loop μ-loop
-add-values-2 c = omega arith
-
-mul-values-2 : tie.Need-mul-values-2 Inv-loop μ-loop
-mul-values-2 c = omega arith
-
-slice-read-values-2 : tie.Need-slice-read-values-2 Inv-loop μ-loop
-slice-read-values-2 c = omega arith
-
-add-values-3 : tie.Need-add-values-3 Inv-loop μ-loop
-add-values-3 c = omega arith
-
-mul-values-3 : tie.Need-mul-values-3 Inv-loop μ-loop
-mul-values-3 c = omega arith
-
 slice-write-values : tie.Need-slice-write-values Inv-loop μ-loop
 slice-write-values c = omega arith
+
+add-product : tie.Need-add-product Inv-loop μ-loop
+add-product c = omega arith
+
+mul-product : tie.Need-mul-product Inv-loop μ-loop
+mul-product c = omega arith
+
+slice-read-product : tie.Need-slice-read-product Inv-loop μ-loop
+slice-read-product c =
+    let l = c .before .before .before .before .loop in
+    let ar = c .before .before .before .before .before .args in
+    omega (arith, length-set (l .values) (ar .target + l .i) (entry (ar .p) (ar .basis) (ar .target) (l .values) (l .i)))
 
 add-i : tie.Need-add-i Inv-loop μ-loop
 add-i c = omega arith
@@ -51,9 +69,14 @@ loop-less c = omega arith
 
 loop-again : tie.Need-loop-again Inv-loop μ-loop
 loop-again c =
-    let l = c .before .before .before .loop in
-    let ar = c .before .before .before .before .args in
-    (omega arith, length-set (l .values) _ _ ∙ l .inv .1, l .inv .2 ∙ subtract-next (ar .p) (ar .basis) (ar .target) (ar .d) (l .values) (l .i) (omega arith) (omega arith) (omega arith))
+    let l = c .before .before .before .before .loop in
+    let ar = c .before .before .before .before .before .args in
+    let done = l .inv .2 ∙ subtract-next (ar .p) (ar .basis) (ar .target) (ar .d) (l .values) (l .i) (omega arith) (omega arith) (omega arith) in (
+      omega arith,
+      length-set (l .values) _ _ ∙ l .inv .1,
+      done,
+      l .inv .3 ∙ sum-next (ar .p) (ar .next) (ar .basis) (ar .target) (ar .d) (l .values) _ (l .product) (l .i) (omega arith) (omega arith) (omega arith) done,
+    )
 
 same-length : tie.Need-same-length Inv-loop μ-loop
 same-length c = c .before .loop .inv .1
@@ -62,7 +85,10 @@ returns : tie.Need-returns Inv-loop μ-loop
 returns c =
     let l = c .before .loop in
     let ar = c .before .before .args in
-    sym (subtract-end (ar .p) (ar .basis) (ar .target) (ar .d) (l .values) (l .i) (omega arith)) ∙ sym (l .inv .2) ∙ subtract-start (ar .p) (ar .basis) (ar .target) (ar .d) _
+    let done : subtracting (ar .p) (ar .basis) (ar .target) (ar .d) (ar .values .now) 0 ≡ l .values = l .inv .2 ∙ subtract-end (ar .p) (ar .basis) (ar .target) (ar .d) (l .values) (l .i) (omega arith) in (
+      sym done ∙ subtract-start (ar .p) (ar .basis) (ar .target) (ar .d) _,
+      sym (sum-end (ar .next) (ar .target) (ar .d) _ (l .product) (l .i) (omega arith)) ∙ sym (l .inv .3) ∙ sum-start (ar .next) (ar .target) (ar .d) _ zero⁺ ∙ ap (λ zs. dot-from zero⁺ (part (ar .next) (ar .d) zs) (part (ar .target) (ar .d) zs)) done,
+    )
 
 pub subtract-projection-spec : {M : Type 1} → statement M
 subtract-projection-spec =
@@ -71,15 +97,18 @@ subtract-projection-spec =
     Inv-loop
     μ-loop
     loop-holds
+    add-x
+    mul-x
+    slice-read-x
+    add-x-2
+    mul-x-2
+    slice-read-x-2
     add-values
     mul-values
-    slice-read-values
-    add-values-2
-    mul-values-2
-    slice-read-values-2
-    add-values-3
-    mul-values-3
     slice-write-values
+    add-product
+    mul-product
+    slice-read-product
     add-i
     loop-less
     loop-again
