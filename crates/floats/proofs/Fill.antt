@@ -2,10 +2,10 @@
 use Prim.Native.Nat.{ℕ, suc, _+_, _-_, _≤_, _<_}
 use native.Mathlib.Numerals.{add-one}
 use native.Mathlib.Omega.{arith}
-use mathlib.Core.Path.{_≡_, sym, ap, _∙_}
+use mathlib.Core.Path.{_≡_, sym}
 use mathlib.Core.List.{List, _++_, map, append-nil}
-use lib.ListN.{length, take, drop, getD, set, length-drop, length-append, drop-of-length-le}
-use lib.Seq.{take-all, take-suc, length-take-le, drop-cons, drop-drop, drop-set-lt, set-at, getD-at, append-snoc, take-suc-set, drop-append-add}
+use lib.ListN.{length, take, drop, getD, set, drop-of-length-le}
+use lib.Seq.{take-all, take-suc, length-take-le, drop-cons, drop-set-lt, set-at, getD-at, append-snoc, take-suc-set}
 use lib.Ieee.{Float, nan}
 
 module _ {A : Type 0} where
@@ -17,20 +17,8 @@ module _ {A : Type 0} where
   pub fill-read : (L o : List A) (i : ℕ) (d : A) → i ≤ length L → i < length o → getD (take i L ++ drop i o) i d ≡ getD o i d
   fill-read L o i d h g = rw (drop-cons o i d g, getD-at (take i L) (getD o i d) (drop (suc i) o) d i (length-take-le i L h))
 
-  pub fill-length : (L o : List A) (i : ℕ) → i ≤ length L → i ≤ length o → length (take i L ++ drop i o) ≡ length o
-  fill-length L o i h g = rw (length-append (take i L) (drop i o), length-take-le i L h, length-drop i o) (omega arith)
-
-pub drop-fill : (L o : List Float) (i n : ℕ) → i ≤ length L → i ≤ n → drop n (take i L ++ drop i o) ≡ drop n o
-drop-fill L o i n h g =
-    let t : length (take i L) ≡ i = length-take-le i L h in
-    let e : n ≡ length (take i L) + (n - i) = omega arith in
-    ap (λ (k : ℕ). drop k (take i L ++ drop i o)) e ∙ drop-append-add (take i L) (drop i o) (n - i) ∙ drop-drop (n - i) i o ∙ ap (λ (k : ℕ). drop k o) {x = i + (n - i)} {y = n} (omega arith)
-
 pub whole : {n : ℕ} (L o : List Float) (i : ℕ) → length L ≡ n → n ≤ i → i ≤ n → take i L ++ drop i o ≡ L ++ drop n o
 whole {n} L o i e h g = let f : i ≡ n = omega arith in rw (f, take-all n L (omega arith))
-
-pub refill : (L o X : List Float) (i : ℕ) → i ≤ length L → X ≡ take i L ++ drop i o → X ≡ take i L ++ drop i X
-refill L o X i h e = e ∙ ap (λ (l : List Float). take i L ++ l) (sym (ap (drop i) e ∙ drop-fill L o i i h (omega arith)))
 
 -- a turn of the loop, where X is under way
 pub fill-step : (L o X : List Float) (i : ℕ) (v : Float) → X ≡ take i L ++ drop i o → v ≡ getD L i nan → i < length L → i < length o

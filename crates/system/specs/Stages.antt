@@ -1,5 +1,5 @@
 -- What the code's leaves hold: vectors at the front of an array of 16, and a classical step stage by stage. Definitions only.
-use Prim.Native.Nat.{ℕ, _+_, _*_, _-_, _≤_}
+use Prim.Native.Nat.{ℕ, _*_, _-_, _≤_}
 use mathlib.Core.Path.{_≡_}
 use mathlib.Core.List.{List, [], _∷_, _++_}
 use lib.ListN.{length, take, replicate}
@@ -49,15 +49,9 @@ alike h f v = moved h f f f f v
 abbrev pub along : System → List Float → Float → List Float → List Float → List Float → List Float → List Float → List Float
 along S m h x₁ x₂ x₃ x₄ v = moved h (tangent S m (take (dim S) x₁)) (tangent S m (take (dim S) x₂)) (tangent S m (take (dim S) x₃)) (tangent S m (take (dim S) x₄)) v
 
--- the sums of four rows of d entries of m, the first from place a on
+-- the sum of the row of d entries of m from place a on
 abbrev pub row-sum : List Float → ℕ → ℕ → List Float → Float
 row-sum m a d x = dot-from zero⁺ (part a d m) x
-
-pub record FourRows (m : List Float) (a d : ℕ) (x : List Float) (s₀ s₁ s₂ s₃ : Float) : Type 0 where
-  pub first : s₀ ≡ row-sum m a d x
-  pub second : s₁ ≡ row-sum m (a + d) d x
-  pub third : s₂ ≡ row-sum m (a + 2 * d) d x
-  pub fourth : s₃ ≡ row-sum m (a + 3 * d) d x
 
 -- what a step leaves in the two slices, with the answer that they call for
 abbrev pub tested-finite : List Float → List Float → Stepped

@@ -7,15 +7,14 @@
 pub mod rk4;
 
 ghost use mathlib.Core.Path.{_≡_};
-ghost use Prim.Native.Nat.{_+_, _*_, _≤_};
-ghost use mathlib.Core.List.{List, [], _++_};
-ghost use lib.ListN.{length, take, drop};
+ghost use Prim.Native.Nat.{_+_, _*_, _≤_, _<_};
+ghost use mathlib.Core.List.{List, []};
+ghost use lib.ListN.{length, take};
 ghost use lib.Ieee.{Float};
-ghost use Rattle.floats.specs.Arithmetic.{zero⁺};
-ghost use Rattle.floats.specs.Vector.{dot-from, chunks};
+ghost use Rattle.floats.specs.Vector.{chunks};
 ghost use Rattle.system.specs.System.{dim, field, tangent, times};
 ghost use Rattle.system.specs.System as Spec;
-ghost use Rattle.system.specs.Stages.{in16, FourRows, NotLinear};
+ghost use Rattle.system.specs.Stages.{in16, row-sum, NotLinear};
 
 // Each choice holds its own parameters. The matrix of a linear system is lent beside it.
 pub enum System {
@@ -145,20 +144,6 @@ fn van_der_pol_tangent(mu: f64, s: &[f64; 16], t: &[f64; 16]) -> [f64; 16]
     out
 }
 
-// The sum over j of row[j] * x[j].
-fn row_product(row: &[f64], x: &[f64; 16]) -> f64
-    requires { ⌜ (length (now row) ≤ 16) × (length (now x) ≡ 16) ⌝ }
-    ensures { λ r. ⌜ r ≡ dot-from zero⁺ (now (row .entry)) (now (x .entry)) ⌝ }
-{
-    let mut sum = 0.0;
-    let mut j = 0usize;
-    while j < row.len() {
-        sum = sum + row[j] * x[j];
-        j += 1;
-    }
-    sum
-}
-
 // The sums of four rows.
 struct Four {
     pub s0: f64,
@@ -167,10 +152,19 @@ struct Four {
     pub s3: f64,
 }
 
-// Four rows at once, the first from place a on.
-fn four_rows(matrix: &[f64], a: usize, d: usize, x: &[f64; 16]) -> Four
-    requires { ⌜ (a + 4 * d ≤ length (now matrix)) × (d ≤ 16) × (length (now x) ≡ 16) ⌝ }
-    ensures { λ r. ⌜ FourRows (now (matrix .entry)) a d (now (x .entry)) (r .s0) (r .s1) (r .s2) (r .s3) ⌝ }
+// Four rows at once: their sums wait for themselves and not for each other. They start at places a0 to a3.
+fn four_rows(
+    matrix: &[f64],
+    a0: usize,
+    a1: usize,
+    a2: usize,
+    a3: usize,
+    d: usize,
+    x: &[f64],
+) -> Four
+    requires { ⌜ (a0 + d ≤ length (now matrix)) × (a1 + d ≤ length (now matrix)) × (a2 + d ≤ length (now matrix)) × (a3 + d ≤ length (now matrix)) × (d ≤ length (now x)) ⌝ }
+    ensures { λ r. ⌜ (r .s0 ≡ row-sum (now (matrix .entry)) a0 d (now (x .entry))) × (r .s1 ≡ row-sum (now (matrix .entry)) a1 d (now (x .entry)))
+        × (r .s2 ≡ row-sum (now (matrix .entry)) a2 d (now (x .entry))) × (r .s3 ≡ row-sum (now (matrix .entry)) a3 d (now (x .entry))) ⌝ }
 {
     let mut s0 = 0.0;
     let mut s1 = 0.0;
@@ -178,43 +172,43 @@ fn four_rows(matrix: &[f64], a: usize, d: usize, x: &[f64; 16]) -> Four
     let mut s3 = 0.0;
     let mut j = 0usize;
     while j < d {
-        s0 = s0 + matrix[a + j] * x[j];
-        s1 = s1 + matrix[a + d + j] * x[j];
-        s2 = s2 + matrix[a + 2 * d + j] * x[j];
-        s3 = s3 + matrix[a + 3 * d + j] * x[j];
+        s0 = s0 + matrix[a0 + j] * x[j];
+        s1 = s1 + matrix[a1 + j] * x[j];
+        s2 = s2 + matrix[a2 + j] * x[j];
+        s3 = s3 + matrix[a3 + j] * x[j];
         j += 1;
     }
     Four { s0, s1, s2, s3 }
 }
 
-// Entries of the product of the matrix and x, four at a time, into out. Answers how many are written.
-fn rows_by_four(matrix: &[f64], d: usize, x: &[f64; 16], out: &mut [f64; 16]) -> usize
-    requires { ⌜ (length (now matrix) ≡ d * d) × (d ≤ 16) × (length (now x) ≡ 16) × (length (now out) ≡ 16) ⌝ }
-    ensures { λ r. ⌜ (r ≤ d) × (length (now (out .exit)) ≡ 16) × (now (out .exit) ≡ take r (times (chunks d d (now (matrix .entry))) (now (x .entry))) ++ drop r (now (out .entry))) ⌝ }
+// Where row i starts. Behind the last row it is the last row's start, so that four rows can always be read.
+fn row_start(i: usize, d: usize) -> usize
+    requires { ⌜ (0 < d) × (d ≤ 16) ⌝ }
+    ensures { λ r. ⌜ (r + d ≤ d * d) × (i < d → r ≡ i * d) ⌝ }
+{
+    if i < d {
+        return i * d;
+    }
+    (d - 1) * d
+}
+
+// The product of the matrix and x, into the first d entries of out. Up to three entries behind them are written too.
+fn linear_into(matrix: &[f64], d: usize, x: &[f64], out: &mut [f64; 16])
+    requires { ⌜ (length (now matrix) ≡ d * d) × (d ≤ 16) × (d ≤ length (now x)) × (length (now out) ≡ 16) ⌝ }
+    ensures { λ _. ⌜ (length (now (out .exit)) ≡ 16) × (take d (now (out .exit)) ≡ times (chunks d d (now (matrix .entry))) (now (x .entry))) ⌝ }
 {
     let mut i = 0usize;
-    while i + 3 < d {
-        let f = four_rows(matrix, i * d, d, x);
+    while i < d {
+        let a0 = row_start(i, d);
+        let a1 = row_start(i + 1, d);
+        let a2 = row_start(i + 2, d);
+        let a3 = row_start(i + 3, d);
+        let f = four_rows(matrix, a0, a1, a2, a3, d, x);
         out[i] = f.s0;
         out[i + 1] = f.s1;
         out[i + 2] = f.s2;
         out[i + 3] = f.s3;
         i += 4;
-    }
-    i
-}
-
-// The product of the matrix and x, into the first d entries of out.
-fn linear_into(matrix: &[f64], d: usize, x: &[f64; 16], out: &mut [f64; 16])
-    requires { ⌜ (length (now matrix) ≡ d * d) × (d ≤ 16) × (length (now x) ≡ 16) × (length (now out) ≡ 16) ⌝ }
-    ensures { λ _. ⌜ (length (now (out .exit)) ≡ 16) × (now (out .exit) ≡ times (chunks d d (now (matrix .entry))) (now (x .entry)) ++ drop d (now (out .entry))) ⌝ }
-{
-    let mut i = rows_by_four(matrix, d, x, out);
-    while i < d {
-        let a = i * d;
-        let e = a + d;
-        out[i] = row_product(&matrix[a..e], x);
-        i += 1;
     }
 }
 

@@ -36,8 +36,8 @@ fn zero_padded(s: &[f64]) -> [f64; 16]
 }
 
 // base + scale * derivative, at the first d entries of out.
-fn combine_into(base: &[f64; 16], derivative: &[f64; 16], scale: f64, d: usize, out: &mut [f64; 16])
-    requires { ⌜ (d ≤ 16) × (length (now base) ≡ 16) × (length (now derivative) ≡ 16) × (length (now out) ≡ 16) ⌝ }
+fn combine_into(base: &[f64], derivative: &[f64; 16], scale: f64, d: usize, out: &mut [f64; 16])
+    requires { ⌜ (d ≤ 16) × (d ≤ length (now base)) × (length (now derivative) ≡ 16) × (length (now out) ≡ 16) ⌝ }
     ensures { λ _. ⌜ (length (now (out .exit)) ≡ 16) × (now (out .exit) ≡ combine-stage scale (take d (now (base .entry))) (take d (now (derivative .entry))) ++ drop d (now (out .entry))) ⌝ }
 {
     let mut i = 0usize;
@@ -83,18 +83,17 @@ fn advance_linear(matrix: &[f64], d: usize, v: &mut [f64], h: f64)
     ensures { λ _. ⌜ now (v .exit) ≡ alike h (times (chunks d d (now (matrix .entry)))) (now (v .entry)) ⌝ }
 {
     let half = 0.5 * h;
-    let v1 = zero_padded(v);
     let mut k1 = [0.0; 16];
     let mut k2 = [0.0; 16];
     let mut k3 = [0.0; 16];
     let mut k4 = [0.0; 16];
     let mut p = [0.0; 16];
-    crate::linear_into(matrix, d, &v1, &mut k1);
-    combine_into(&v1, &k1, half, d, &mut p);
+    crate::linear_into(matrix, d, v, &mut k1);
+    combine_into(v, &k1, half, d, &mut p);
     crate::linear_into(matrix, d, &p, &mut k2);
-    combine_into(&v1, &k2, half, d, &mut p);
+    combine_into(v, &k2, half, d, &mut p);
     crate::linear_into(matrix, d, &p, &mut k3);
-    combine_into(&v1, &k3, h, d, &mut p);
+    combine_into(v, &k3, h, d, &mut p);
     crate::linear_into(matrix, d, &p, &mut k4);
     rk4_update(v, k1, k2, k3, k4, h);
 }

@@ -1,5 +1,5 @@
 -- `system::four_rows` meets its contract. The loop's invariant: each of the four sums is the row's whole sum less what is still to come.
-use Prim.Native.Nat.{_+_, _*_, _≤_, _-_}
+use Prim.Native.Nat.{_≤_, _-_}
 use native.Mathlib.Omega.{arith}
 use mathlib.Core.Path.{_≡_, refl, sym, _∙_}
 use borrow.Author.Needs.{needs}
@@ -12,15 +12,15 @@ use Rattle.system.proofs.four_rows.Statement.{statement}
 use Rattle.system.proofs.four_rows.Tie as tie
 
 abbrev Inv-loop : tie.InvT-loop
-Inv-loop matrix a d x s0₀ s1₀ s2₀ s3₀ j₀ s0 s1 s2 s3 j =
+Inv-loop matrix a0 a1 a2 a3 d x s0₀ s1₀ s2₀ s3₀ j₀ s0 s1 s2 s3 j =
     (j ≤ d)
-    × (row-sum matrix a d x ≡ dot-from s0 (drop j (part a d matrix)) (drop j x))
-    × (row-sum matrix (a + d) d x ≡ dot-from s1 (drop j (part (a + d) d matrix)) (drop j x))
-    × (row-sum matrix (a + 2 * d) d x ≡ dot-from s2 (drop j (part (a + 2 * d) d matrix)) (drop j x))
-    × (row-sum matrix (a + 3 * d) d x ≡ dot-from s3 (drop j (part (a + 3 * d) d matrix)) (drop j x))
+    × (row-sum matrix a0 d x ≡ dot-from s0 (drop j (part a0 d matrix)) (drop j x))
+    × (row-sum matrix a1 d x ≡ dot-from s1 (drop j (part a1 d matrix)) (drop j x))
+    × (row-sum matrix a2 d x ≡ dot-from s2 (drop j (part a2 d matrix)) (drop j x))
+    × (row-sum matrix a3 d x ≡ dot-from s3 (drop j (part a3 d matrix)) (drop j x))
 
 abbrev μ-loop : tie.MeasureT-loop
-μ-loop matrix a d x s0₀ s1₀ s2₀ s3₀ j₀ s0 s1 s2 s3 j = d - j
+μ-loop matrix a0 a1 a2 a3 d x s0₀ s1₀ s2₀ s3₀ j₀ s0 s1 s2 s3 j = d - j
 
 loop-holds : tie.Need-loop-holds Inv-loop μ-loop
 unfolding ofBits
@@ -38,14 +38,11 @@ shared-slice-read-s0 c = search needs
 mul-s0-2 : tie.Need-mul-s0-2 Inv-loop μ-loop
 mul-s0-2 c = search needs
 
-element-copy-out-s0 : tie.Need-element-copy-out-s0 Inv-loop μ-loop
-element-copy-out-s0 c = search needs
+shared-slice-read-s0-2 : tie.Need-shared-slice-read-s0-2 Inv-loop μ-loop
+shared-slice-read-s0-2 c = search needs
 
 add-s1 : tie.Need-add-s1 Inv-loop μ-loop
 add-s1 c = search needs
-
-add-s1-2 : tie.Need-add-s1-2 Inv-loop μ-loop
-add-s1-2 c = search needs
 
 mul-s1 : tie.Need-mul-s1 Inv-loop μ-loop
 mul-s1 c = search needs
@@ -56,50 +53,38 @@ shared-slice-read-s1 c = search needs
 mul-s1-2 : tie.Need-mul-s1-2 Inv-loop μ-loop
 mul-s1-2 c = search needs
 
-element-copy-out-s1 : tie.Need-element-copy-out-s1 Inv-loop μ-loop
-element-copy-out-s1 c = search needs
-
-mul-s2 : tie.Need-mul-s2 Inv-loop μ-loop
-mul-s2 c = search needs
+shared-slice-read-s1-2 : tie.Need-shared-slice-read-s1-2 Inv-loop μ-loop
+shared-slice-read-s1-2 c = search needs
 
 add-s2 : tie.Need-add-s2 Inv-loop μ-loop
 add-s2 c = search needs
 
-add-s2-2 : tie.Need-add-s2-2 Inv-loop μ-loop
-add-s2-2 c = search needs
-
-mul-s2-2 : tie.Need-mul-s2-2 Inv-loop μ-loop
-mul-s2-2 c = search needs
+mul-s2 : tie.Need-mul-s2 Inv-loop μ-loop
+mul-s2 c = search needs
 
 shared-slice-read-s2 : tie.Need-shared-slice-read-s2 Inv-loop μ-loop
 shared-slice-read-s2 c = search needs
 
-mul-s2-3 : tie.Need-mul-s2-3 Inv-loop μ-loop
-mul-s2-3 c = search needs
+mul-s2-2 : tie.Need-mul-s2-2 Inv-loop μ-loop
+mul-s2-2 c = search needs
 
-element-copy-out-s2 : tie.Need-element-copy-out-s2 Inv-loop μ-loop
-element-copy-out-s2 c = search needs
-
-mul-s3 : tie.Need-mul-s3 Inv-loop μ-loop
-mul-s3 c = search needs
+shared-slice-read-s2-2 : tie.Need-shared-slice-read-s2-2 Inv-loop μ-loop
+shared-slice-read-s2-2 c = search needs
 
 add-s3 : tie.Need-add-s3 Inv-loop μ-loop
 add-s3 c = search needs
 
-add-s3-2 : tie.Need-add-s3-2 Inv-loop μ-loop
-add-s3-2 c = search needs
-
-mul-s3-2 : tie.Need-mul-s3-2 Inv-loop μ-loop
-mul-s3-2 c = search needs
+mul-s3 : tie.Need-mul-s3 Inv-loop μ-loop
+mul-s3 c = search needs
 
 shared-slice-read-s3 : tie.Need-shared-slice-read-s3 Inv-loop μ-loop
 shared-slice-read-s3 c = search needs
 
-mul-s3-3 : tie.Need-mul-s3-3 Inv-loop μ-loop
-mul-s3-3 c = search needs
+mul-s3-2 : tie.Need-mul-s3-2 Inv-loop μ-loop
+mul-s3-2 c = search needs
 
-element-copy-out-s3 : tie.Need-element-copy-out-s3 Inv-loop μ-loop
-element-copy-out-s3 c = search needs
+shared-slice-read-s3-2 : tie.Need-shared-slice-read-s3-2 Inv-loop μ-loop
+shared-slice-read-s3-2 c = search needs
 
 add-j : tie.Need-add-j Inv-loop μ-loop
 add-j c = omega arith
@@ -113,14 +98,13 @@ loop-again c =
     let ar = c .before .before .before .before .before .before .before .before .before .before .args in
     let m = ar .matrix .now in
     let x = ar .x .now in
-    let a = ar .a in
     let d = ar .d in
     let j = l .j in (
       omega arith,
-      l .inv .1 ∙ row-next m x a d j (l .s0) (omega arith) (omega arith) (omega arith),
-      l .inv .2 ∙ row-next m x (a + d) d j (l .s1) (omega arith) (omega arith) (omega arith),
-      l .inv .3 ∙ row-next m x (a + 2 * d) d j (l .s2) (omega arith) (omega arith) (omega arith),
-      l .inv .4 ∙ row-next m x (a + 3 * d) d j (l .s3) (omega arith) (omega arith) (omega arith),
+      l .inv .1 ∙ row-next m x (ar .a0) d j (l .s0) (omega arith) (omega arith) (omega arith),
+      l .inv .2 ∙ row-next m x (ar .a1) d j (l .s1) (omega arith) (omega arith) (omega arith),
+      l .inv .3 ∙ row-next m x (ar .a2) d j (l .s2) (omega arith) (omega arith) (omega arith),
+      l .inv .4 ∙ row-next m x (ar .a3) d j (l .s3) (omega arith) (omega arith) (omega arith),
     )
 
 returns : tie.Need-returns Inv-loop μ-loop
@@ -129,15 +113,13 @@ returns c =
     let ar = c .before .before .args in
     let m = ar .matrix .now in
     let x = ar .x .now in
-    let a = ar .a in
     let d = ar .d in
-    let j = l .j in
-    record {
-      first = sym (l .inv .1 ∙ row-end m x a d j (l .s0) (omega arith) (omega arith));
-      second = sym (l .inv .2 ∙ row-end m x (a + d) d j (l .s1) (omega arith) (omega arith));
-      third = sym (l .inv .3 ∙ row-end m x (a + 2 * d) d j (l .s2) (omega arith) (omega arith));
-      fourth = sym (l .inv .4 ∙ row-end m x (a + 3 * d) d j (l .s3) (omega arith) (omega arith));
-    }
+    let j = l .j in (
+      sym (l .inv .1 ∙ row-end m x (ar .a0) d j (l .s0) (omega arith) (omega arith)),
+      sym (l .inv .2 ∙ row-end m x (ar .a1) d j (l .s1) (omega arith) (omega arith)),
+      sym (l .inv .3 ∙ row-end m x (ar .a2) d j (l .s2) (omega arith) (omega arith)),
+      sym (l .inv .4 ∙ row-end m x (ar .a3) d j (l .s3) (omega arith) (omega arith)),
+    )
 
 pub four-rows-spec : {M : Type 1} → statement M
 four-rows-spec =
@@ -150,27 +132,22 @@ four-rows-spec =
     mul-s0
     shared-slice-read-s0
     mul-s0-2
-    element-copy-out-s0
+    shared-slice-read-s0-2
     add-s1
-    add-s1-2
     mul-s1
     shared-slice-read-s1
     mul-s1-2
-    element-copy-out-s1
-    mul-s2
+    shared-slice-read-s1-2
     add-s2
-    add-s2-2
-    mul-s2-2
+    mul-s2
     shared-slice-read-s2
-    mul-s2-3
-    element-copy-out-s2
-    mul-s3
+    mul-s2-2
+    shared-slice-read-s2-2
     add-s3
-    add-s3-2
-    mul-s3-2
+    mul-s3
     shared-slice-read-s3
-    mul-s3-3
-    element-copy-out-s3
+    mul-s3-2
+    shared-slice-read-s3-2
     add-j
     loop-less
     loop-again

@@ -16,7 +16,7 @@ combine-into-requires c κs = search needs
 returns : tie.Need-returns
 unfolding ofBits
 returns c =
-    let ar = c .before .before .args in
+    let ar = c .before .before .before .args in
     let b = ar .base .now in
     let k = ar .derivative .now in
     c .combine-into .ensures .1 ∙ in16-drop (combine-stage (ar .scale) (take (ar .d) b) (take (ar .d) k)) (ar .d) (front-length (ar .scale) b k (ar .d) (omega arith)) (omega arith)
