@@ -36,7 +36,7 @@ use Rattle.benettin.specs.Run.{output-tests, all-tests}
 use Rattle.benettin.specs.LeadingSpectrum.{LeadingSpectrum}
 use Rattle.benettin.specs.Estimate.{Input, early-tests, problem, dynamics, estimate}
 use Rattle.system.specs.System.{dim}
-use Rattle.system.proofs.Lengths.{direction-length}
+use Rattle.rk4.proofs.Lengths.{direction-length}
 
 -- ---- what is asked of a problem
 

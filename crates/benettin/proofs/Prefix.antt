@@ -14,7 +14,7 @@ use Rattle.benettin.specs.Run.{Generator, draws, drawn-directions, gener
 use Rattle.floats.specs.Vector.{concat}
 use lib.Ieee.Scale.{finite}
 use Rattle.floats.specs.Finite.{first-not-finite}
-use Rattle.system.specs.Stepper.{zip}
+use Rattle.rk4.specs.Stepper.{zip}
 use Rattle.floats.specs.Arithmetic.{_⊘_}
 use Rattle.floats.proofs.Vector.{Sized, concat-take}
 use Rattle.gram_schmidt.proofs.Loops.{orthogonalise-length}

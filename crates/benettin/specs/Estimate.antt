@@ -14,7 +14,7 @@ use Rattle.floats.specs.Arithmetic.{_⊗_}
 use Rattle.floats.specs.Finite.{first-not-finite, positive}
 use Rattle.splitmix64.specs.Mix.{next-state, mix, unit}
 use Rattle.system.specs.System.{dim, matrix-fits}
-use Rattle.system.specs.Step.{advance}
+use Rattle.rk4.specs.Step.{advance}
 use Rattle.system.specs.declared.System.{System}
 use Rattle.gram_schmidt.specs.GramSchmidt.{euclidean}
 use Rattle.benettin.specs.Run.{Dynamics, Generator, Problem, OutputLengths, RunAnswer, as-float, run}

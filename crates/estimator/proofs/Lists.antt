@@ -8,7 +8,7 @@ use lib.ListN.{length, take, drop, getD, set, drop-of-length-le, take-append-dro
 use lib.Seq.{drop-cons, take-suc-set, drop-set-lt, append-snoc, take-all, set-getD, getD-set-other}
 use lib.Ieee.{Float, nan}
 use mathlib.Core.Bool.{Bool, true, false, cond}
-use Rattle.system.specs.Stepper.{zip}
+use Rattle.rk4.specs.Stepper.{zip}
 use Rattle.gram_schmidt.specs.GramSchmidt.{euclidean}
 use Rattle.benettin.specs.Run.{row}
 use Rattle.estimator.specs.Progress.{updated, counted}

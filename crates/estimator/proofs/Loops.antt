@@ -19,7 +19,7 @@ use Rattle.floats.specs.Arithmetic.{_⊕_, _⊗_, _⊘_}
 use Rattle.floats.proofs.Sets.{sets-append}
 use Rattle.floats.proofs.Vector.{vector-fits}
 use Rattle.system.specs.System.{dim}
-use Rattle.system.specs.Stepper.{zip}
+use Rattle.rk4.specs.Stepper.{zip}
 use Rattle.system.specs.declared.System.{System}
 use Rattle.benettin.specs.Run.{Dynamics, RunState, RunRefusal, Status, ok, refused, steps, window, warm-up, measured, with-row, accumulate, row, as-float, Course, _then_}
 use Rattle.benettin.specs.Estimate.{dynamics}

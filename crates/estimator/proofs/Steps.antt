@@ -19,10 +19,10 @@ use Rattle.floats.specs.Finite.{first-not-finite}
 use Rattle.floats.specs.Vector.{chunks, concat}
 use Rattle.floats.proofs.Vector.{Sized, chunks-sized, chunks-length, chunks-back, map-sized}
 use Rattle.system.specs.System.{dim}
-use Rattle.system.specs.Step.{Stepped, advance, advanced, not-finite, stepped, left}
+use Rattle.rk4.specs.Step.{Stepped, advance, advanced, not-finite, stepped, left}
 use Rattle.system.specs.declared.System.{System}
-use Rattle.system.proofs.Lengths.{direction-length}
-use Rattle.system.proofs.Step.{Passed, stepped-passed}
+use Rattle.rk4.proofs.Lengths.{direction-length}
+use Rattle.rk4.proofs.Tests.{Passed, stepped-passed}
 use Rattle.benettin.specs.Run.{Dynamics, RunState, RunRefusal, ok, refused, refused-at, tested, step, steps, _then_}
 use Rattle.benettin.specs.Estimate.{dynamics}
 use Rattle.estimator.specs.Progress.{Stepping, with-steps, refused-by}

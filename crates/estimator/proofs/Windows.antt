@@ -18,7 +18,7 @@ use Rattle.error.specs.declared.Outcome.the-variants.{Accepted, Refused}
 use Rattle.floats.specs.Vector.{chunks, concat}
 use Rattle.floats.proofs.Vector.{Sized, chunks-sized, chunks-concat, chunks-length}
 use Rattle.system.specs.System.{dim}
-use Rattle.system.specs.Stepper.{zip}
+use Rattle.rk4.specs.Stepper.{zip}
 use Rattle.system.specs.declared.System.{System}
 use Rattle.gram_schmidt.specs.Orthonormalise.{Basis, orthonormalise}
 use Rattle.gram_schmidt.specs.GramSchmidt as GramSchmidt

@@ -63,15 +63,7 @@ fn advance_window(
     let mut steps = made;
     let mut i: u64 = 0;
     while i < count {
-        if let Outcome::Refused(e) = system::rk4::step(
-            system,
-            matrix,
-            time,
-            state,
-            tangents,
-            k,
-            h,
-        ) {
+        if let Outcome::Refused(e) = rk4::step(system, matrix, time, state, tangents, k, h) {
             return Advance {
                 outcome: Outcome::Refused(e),
                 time,

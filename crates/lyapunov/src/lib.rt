@@ -10,7 +10,7 @@ ghost use Rattle.ln.specs.Logarithm.{logarithm};
 ghost use Rattle.splitmix64.specs.Mix as Mix;
 ghost use Rattle.error.specs.Refusal.{number-of, place-of, reported, refusal-in};
 ghost use Rattle.gram_schmidt.specs.GramSchmidt.{orthonormalised};
-ghost use Rattle.system.specs.Step.{stepped};
+ghost use Rattle.rk4.specs.Step.{stepped};
 ghost use Rattle.benettin.specs.Estimate.{configured, input, settings};
 ghost use Rattle.benettin.specs.Outputs.{estimated};
 ghost use Rattle.diagnostics.specs.Rates as Rates;
@@ -177,7 +177,7 @@ pub extern "C" fn lyapunov_step(
         × (now (tangents .exit) ≡ stepped (Interface.system kind p0 p1 p2 dimension) (now (matrix .entry)) time (now (state .entry)) (now (tangents .entry)) count «step_size» .tangents) ⌝ }
 {
     let system = system_of(kind, p0, p1, p2, dimension);
-    let outcome = system::rk4::step(system, matrix, time, state, tangents, count, step_size);
+    let outcome = rk4::step(system, matrix, time, state, tangents, count, step_size);
     report(outcome, place)
 }
 

@@ -1,6 +1,3 @@
--- What the contracts cite: the systems, the stepper, a step called alone, and the code's stages.
+-- What the contracts cite: the systems, and vectors in the code's arrays.
 pub mod System
-pub mod Stepper
-pub mod Step
-pub mod Stages
-pub mod Marked
+pub mod Array

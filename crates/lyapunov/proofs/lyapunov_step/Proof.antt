@@ -2,7 +2,7 @@
 use borrow.Author.Needs.{needs}
 use mathlib.Core.Path.{ap, _∙_}
 use Rattle.error.specs.Refusal.{number-of, place-of}
-use Rattle.system.specs.Step.{Stepped, stepped}
+use Rattle.rk4.specs.Step.{Stepped, stepped}
 use Rattle.system.specs.declared.System.{System}
 use Rattle.lyapunov.proofs.lyapunov_step.Statement.{statement}
 use Rattle.lyapunov.proofs.lyapunov_step.Tie as tie

@@ -1,0 +1,125 @@
+-- Only the first entries of an array count: in a stage point, in the update, and in the fields and tangent maps.
+use Prim.Native.Nat.{ℕ, zero, suc, _-_, _≤_}
+use native.Mathlib.Omega.{arith}
+use mathlib.Core.Path.{_≡_, refl, ap, _∙_}
+use mathlib.Core.List.{List, [], _∷_, _++_, map}
+use lib.ListN.{length, take, drop, replicate}
+use lib.Seq.{take-append-le, take-at, take-take, getD-take}
+use lib.Ieee.{Float, nan}
+use Rattle.floats.specs.Arithmetic.{_⊕_, _⊗_, _⊘_, zero⁺, two, six}
+use Rattle.system.specs.System.{dim, field, tangent}
+use Rattle.system.specs.Array.{in16}
+use Rattle.system.specs.declared.System.{System}
+use Rattle.system.specs.declared.System.the-variants.{Lorenz, Rossler, VanDerPol, Linear}
+use Rattle.rk4.specs.Stepper.{combine-stage, zip, sum₂, rk4-update}
+use Rattle.rk4.proofs.Padding.{in16-take}
+use Rattle.rk4.proofs.Product.{times-length, times-few}
+use Rattle.rk4.proofs.Stage.{double, front-length}
+
+-- ---- a stage point
+
+combine-take : (n : ℕ) (s : Float) (v k : List Float) → take n (combine-stage s v k) ≡ combine-stage s (take n v) (take n k)
+unfolding combine-stage
+combine-take zero s v k = refl
+combine-take (suc n) s [] k = refl
+combine-take (suc n) s (x ∷ v) [] = refl
+combine-take (suc n) s (x ∷ v) (y ∷ k) = ap (λ (l : List Float). x ⊕ s ⊗ y ∷ l) (combine-take n s v k)
+
+combine-few : (s : Float) (v k : List Float) → combine-stage s v k ≡ combine-stage s v (take (length v) k)
+unfolding combine-stage
+combine-few s [] k = refl
+combine-few s (x ∷ v) [] = refl
+combine-few s (x ∷ v) (y ∷ k) = ap (λ (l : List Float). x ⊕ s ⊗ y ∷ l) (combine-few s v k)
+
+-- d of the w entries that the code computes
+pub combine-front : (s : Float) (b k p : List Float) (d w : ℕ) → d ≤ w → w ≤ length b → p ≡ in16 (combine-stage s (take w b) (take w k)) → take d p ≡ combine-stage s (take d b) (take d k)
+combine-front s b k p d w h g f =
+    let L = combine-stage s (take w b) (take w k) in
+    let n : length L ≡ w = front-length s b k w g in
+    rw (f, take-append-le d L (replicate (16 - length L) zero⁺) (omega arith), combine-take d s (take w b) (take w k), take-take d w b h, take-take d w k h)
+
+pub into-front : (s : Float) (b k o p : List Float) (d : ℕ) → d ≤ length b → p ≡ combine-stage s (take d b) (take d k) ++ drop d o → take d p ≡ combine-stage s (take d b) (take d k)
+into-front s b k o p d h e = rw (e, take-at (combine-stage s (take d b) (take d k)) (drop d o) d (front-length s b k d h))
+
+-- ---- the update
+
+zip-take : (f : Float → Float → Float) (n : ℕ) (k l : List Float) → take n (zip f k l) ≡ zip f (take n k) (take n l)
+unfolding zip
+zip-take f zero k l = refl
+zip-take f (suc n) [] l = refl
+zip-take f (suc n) (x ∷ k) [] = refl
+zip-take f (suc n) (x ∷ k) (y ∷ l) = ap (λ (m : List Float). f x y ∷ m) (zip-take f n k l)
+
+map-take : (f : Float → Float) (n : ℕ) (k : List Float) → take n (map f k) ≡ map f (take n k)
+map-take f zero k = refl
+map-take f (suc n) [] = refl
+map-take f (suc n) (x ∷ k) = ap (λ (m : List Float). f x ∷ m) (map-take f n k)
+
+pub update-few : (h : Float) (k₁ k₂ k₃ k₄ v : List Float) (n : ℕ) → length v ≡ n
+    → rk4-update h (k₄ ∷ k₃ ∷ k₂ ∷ k₁ ∷ []) v ≡ rk4-update h (take n k₄ ∷ take n k₃ ∷ take n k₂ ∷ take n k₁ ∷ []) v
+unfolding rk4-update
+update-few h k₁ k₂ k₃ k₄ v n e =
+    let s₂ = sum₂ k₁ (double k₂) in
+    let s₃ = sum₂ s₂ (double k₃) in
+    combine-few (h ⊘ six) v (sum₂ s₃ k₄)
+    ∙ rw (
+      e,
+      zip-take (_⊕_) n s₃ k₄,
+      zip-take (_⊕_) n s₂ (double k₃),
+      zip-take (_⊕_) n k₁ (double k₂),
+      map-take (λ x. two ⊗ x) n k₂,
+      map-take (λ x. two ⊗ x) n k₃,
+    )
+
+-- ---- the fields and tangent maps
+
+pub field-length : (S : System) (m x : List Float) → length (field S m x) ≡ dim S
+unfolding field
+field-length (Lorenz σ ρ β) m x = refl
+field-length (Rossler a b c) m x = refl
+field-length (VanDerPol μ) m x = refl
+field-length (Linear d) m x = times-length d d m x
+
+pub tangent-length : (S : System) (m x t : List Float) → length (tangent S m x t) ≡ dim S
+unfolding tangent
+tangent-length (Lorenz σ ρ β) m x t = refl
+tangent-length (Rossler a b c) m x t = refl
+tangent-length (VanDerPol μ) m x t = refl
+tangent-length (Linear d) m x t = times-length d d m t
+
+field-few : (S : System) (m x : List Float) → field S m x ≡ field S m (take (dim S) x)
+unfolding field
+field-few (Lorenz σ ρ β) m x = rw (getD-take 3 x 0 nan (omega arith), getD-take 3 x 1 nan (omega arith), getD-take 3 x 2 nan (omega arith))
+field-few (Rossler a b c) m x = rw (getD-take 3 x 0 nan (omega arith), getD-take 3 x 1 nan (omega arith), getD-take 3 x 2 nan (omega arith))
+field-few (VanDerPol μ) m x = rw (getD-take 2 x 0 nan (omega arith), getD-take 2 x 1 nan (omega arith))
+field-few (Linear d) m x = times-few d d m x
+
+tangent-few : (S : System) (m x t : List Float) → tangent S m x t ≡ tangent S m (take (dim S) x) (take (dim S) t)
+unfolding tangent
+tangent-few (Lorenz σ ρ β) m x t =
+    rw (
+      getD-take 3 x 0 nan (omega arith),
+      getD-take 3 x 1 nan (omega arith),
+      getD-take 3 x 2 nan (omega arith),
+      getD-take 3 t 0 nan (omega arith),
+      getD-take 3 t 1 nan (omega arith),
+      getD-take 3 t 2 nan (omega arith),
+    )
+tangent-few (Rossler a b c) m x t =
+    rw (
+      getD-take 3 x 0 nan (omega arith),
+      getD-take 3 x 2 nan (omega arith),
+      getD-take 3 t 0 nan (omega arith),
+      getD-take 3 t 1 nan (omega arith),
+      getD-take 3 t 2 nan (omega arith),
+    )
+tangent-few (VanDerPol μ) m x t =
+    rw (getD-take 2 x 0 nan (omega arith), getD-take 2 x 1 nan (omega arith), getD-take 2 t 0 nan (omega arith), getD-take 2 t 1 nan (omega arith))
+tangent-few (Linear d) m x t = times-few d d m t
+
+-- what the code's arrays hold of a derivative
+pub field-front : (S : System) (m x k : List Float) → k ≡ in16 (field S m x) → take (dim S) k ≡ field S m (take (dim S) x)
+field-front S m x k f = rw (f, in16-take (field S m x) (dim S) (field-length S m x)) (field-few S m x)
+
+pub tangent-front : (S : System) (m x t k : List Float) → k ≡ in16 (tangent S m x t) → take (dim S) k ≡ tangent S m (take (dim S) x) (take (dim S) t)
+tangent-front S m x t k f = rw (f, in16-take (tangent S m x t) (dim S) (tangent-length S m x t)) (tangent-few S m x t)

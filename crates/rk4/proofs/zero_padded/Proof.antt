@@ -1,0 +1,69 @@
+-- `rk4::zero_padded` meets its contract. The loop's invariant: the first i entries are copied.
+use Prim.Native.Nat.{_≤_, _-_}
+use native.Mathlib.Omega.{arith}
+use mathlib.Core.Path.{_≡_, refl, _∙_}
+use mathlib.Core.List.{_++_}
+use borrow.Author.Needs.{needs}
+use lib.ListN.{length, take, drop, length-set, replicate}
+use lib.Ieee.{ofBits}
+use Rattle.floats.specs.Arithmetic.{zero⁺}
+use Rattle.floats.proofs.Fill.{fill-step, whole}
+use Rattle.rk4.proofs.Padding.{in16-drop}
+use Rattle.rk4.proofs.zero_padded.Statement.{statement}
+use Rattle.rk4.proofs.zero_padded.Tie as tie
+
+abbrev Inv-loop : tie.InvT-loop
+Inv-loop s out₀ i₀ out i = (i ≤ length s) × (length out ≡ 16) × (out ≡ take i s ++ drop i (replicate 16 zero⁺))
+
+abbrev μ-loop : tie.MeasureT-loop
+μ-loop s out₀ i₀ out i = length s - i
+
+loop-holds : tie.Need-loop-holds Inv-loop μ-loop
+unfolding ofBits
+loop-holds c = (omega arith, refl, refl)
+
+mul-out : tie.Need-mul-out Inv-loop μ-loop
+mul-out c = search needs
+
+shared-slice-read-out : tie.Need-shared-slice-read-out Inv-loop μ-loop
+shared-slice-read-out c = search needs
+
+mul-out-2 : tie.Need-mul-out-2 Inv-loop μ-loop
+mul-out-2 c = search needs
+
+array-write-out : tie.Need-array-write-out Inv-loop μ-loop
+array-write-out c = search needs
+
+add-i : tie.Need-add-i Inv-loop μ-loop
+add-i c = search needs
+
+loop-less : tie.Need-loop-less Inv-loop μ-loop
+loop-less c = search needs
+
+loop-again : tie.Need-loop-again Inv-loop μ-loop
+loop-again c =
+    let l = c .before .before .loop in
+    let s = c .before .before .before .args .s .now in
+    (omega arith, simp length-set (l .inv .1), fill-step s (replicate 16 zero⁺) (l .out) (l .i) _ (l .inv .2) refl (omega arith) (omega arith))
+
+returns : tie.Need-returns Inv-loop μ-loop
+returns c =
+    let l = c .before .loop in
+    let s = c .before .before .args .s .now in
+    l .inv .2 ∙ whole s (replicate 16 zero⁺) (l .i) refl (omega arith) (omega arith) ∙ in16-drop s (length s) refl (omega arith)
+
+pub zero-padded-spec : {M : Type 1} → statement M
+zero-padded-spec =
+    tie.close
+    (tie.spec
+    Inv-loop
+    μ-loop
+    loop-holds
+    mul-out
+    shared-slice-read-out
+    mul-out-2
+    array-write-out
+    add-i
+    loop-less
+    loop-again
+    returns)

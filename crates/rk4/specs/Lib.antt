@@ -1,0 +1,5 @@
+-- What the contracts cite: the stepper, a step called alone, and the code's stages.
+pub mod Stepper
+pub mod Step
+pub mod Stages
+pub mod Marked
