@@ -3,3 +3,5 @@ pub mod Prefix
 pub mod Simulation
 pub mod LeadingSpectrum
 pub mod Refusals
+pub mod RunTests
+pub mod Draws

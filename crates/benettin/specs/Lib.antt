@@ -2,6 +2,7 @@
 pub mod Run
 pub mod Estimate
 pub mod Outputs
+pub mod RunTests
 pub mod LeadingSpectrum
 pub mod Refusals
 pub mod Examples

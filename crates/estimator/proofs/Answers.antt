@@ -20,9 +20,10 @@ use Rattle.system.specs.declared.System.{System}
 use Rattle.benettin.specs.Run.{Course, ok, answer, as-float, initial, course, all-tests, run, run-past}
 use Rattle.benettin.specs.Estimate.{Input, dynamics, problem, estimate}
 use Rattle.benettin.specs.Outputs.{Estimated, estimated, outputs, left, lengths-of, flat-rows}
+use Rattle.benettin.specs.RunTests.{Ready}
 use Rattle.benettin.specs.declared.SpectrumEstimate.{SpectrumEstimate}
 use Rattle.estimator.specs.Progress.{run-state, status, Recorded, recorded, written}
-use Rattle.estimator.specs.Start.{Closed, closed, closing, drawn, answered, refused-estimate, Ready}
+use Rattle.estimator.specs.Start.{Closed, closed, closing, drawn, answered, refused-estimate}
 use Rattle.estimator.specs.declared.Progress.{Progress}
 
 drop-replicate : (k n : ℕ) → k ≤ n → _≡_ {A = List ℕ} (drop k (replicate n 0)) (replicate (n - k) 0)

@@ -1,12 +1,12 @@
--- The draw, and what comes before the first measured window.
-use Prim.Native.Nat.{ℕ, zero, suc, _+_, _-_, _*_, _≤_, _<_}
-use native.Mathlib.Nat.{suc-mul, add-comm, mul-le-mul-right, mul-le-mul-left, le-trans}
+-- What comes before the first measured window.
+use Prim.Native.Nat.{ℕ, zero, suc, _+_, _*_, _≤_, _<_}
+use native.Mathlib.Nat.{mul-le-mul-right, mul-le-mul-left, le-trans}
 use native.Mathlib.Numerals.{add-one}
 use native.Mathlib.Omega.{arith}
 use mathlib.Core.Path.{_≡_, refl, sym, ap, _∙_}
 use mathlib.Core.List.{List, _++_, append-nil}
 use lib.ListN.{length, take, drop, getD, set, replicate, drop-of-length-le}
-use lib.Seq.{take-all, take-at, drop-at, drop-cons, take-suc-set, append-snoc}
+use lib.Seq.{take-all, drop-cons, take-suc-set, append-snoc}
 use lib.Ieee.{Float, nan}
 use mathlib.Core.Bool.{true, false}
 use lib.Ieee.Scale.{finite}
@@ -14,68 +14,20 @@ use Rattle.error.specs.declared.LyapunovError.{LyapunovError}
 use Rattle.error.specs.declared.Outcome.{Outcome}
 use Rattle.error.specs.declared.Outcome.the-variants.{Accepted, Refused}
 use Rattle.floats.specs.Arithmetic.{_⊗_, zero⁺}
-use Rattle.floats.specs.Vector.{chunks}
 use Rattle.system.specs.System.{dim}
 use Rattle.system.specs.declared.System.{System}
 use Rattle.gram_schmidt.specs.GramSchmidt.{orthonormalised}
-use Rattle.benettin.specs.Run.{Dynamics, Generator, RunState, Status, ok, refused, refused-at, steps, unless-collapsed, reorthonormalise, warm-up, measured, as-float, _then_, draws, generator-after, drawn-directions, check-duration, warmed-up, measured-from, course}
+use Rattle.benettin.specs.Run.{Dynamics, RunState, Status, ok, refused, refused-at, unless-collapsed, reorthonormalise, warm-up, measured, as-float, _then_, draws, check-duration, warmed-up, measured-from, course}
 use Rattle.benettin.specs.Estimate.{dynamics, splitmix64, limit}
-use Rattle.benettin.specs.Outputs.{left, flat-rows}
+use Rattle.benettin.specs.Outputs.{flat-rows}
+use Rattle.benettin.proofs.Draws.{draws-length, drawn-are}
 use Rattle.benettin.proofs.Prefix.{take-replicate}
-use Rattle.estimator.specs.Progress.{run-state, refused-by, status, Within, Room, Recorded, recorded, written}
+use Rattle.estimator.specs.Progress.{run-state, refused-by, status, Within, Room, Fitting, Recorded, recorded, written}
 use Rattle.estimator.specs.Start.{fresh, drawn}
 use Rattle.estimator.specs.declared.Progress.{Progress}
-use Rattle.estimator.proofs.Windows.{basis, collapsed-refused, whole, directions-are, logs-are}
-use Rattle.splitmix64.specs.Mix.{next-state, mix, unit}
+use Rattle.estimator.proofs.Windows.{basis, collapsed-refused, reported-is, whole, directions-are, logs-are, reports-are}
 use Rattle.gram_schmidt.specs.GramSchmidt as GramSchmidt
 use Rattle.error.specs.Refusal.{reported}
-use Rattle.estimator.proofs.Windows.{reported-is, reports-are}
-use Rattle.estimator.specs.Progress.{Fitting}
-
--- ---- the loop that draws
-
-module _ (G : Generator) where
-  pub draws-next : (xs : List Float) (n i s : ℕ) → i < n → length xs ≡ n
-      → take i xs ++ draws G (n - i) s ≡ take (i + 1) (set xs i (G .draw (G .next s))) ++ draws G (n - (i + 1)) (G .next s)
-  unfolding draws
-  draws-next xs n i s h e =
-      let z : n - i ≡ suc (n - (i + 1)) = omega arith in
-      let x = G .draw (G .next s) in
-      rw (z, add-one i, take-suc-set xs i x (omega arith)) (sym (append-snoc (take i xs) x (draws G (n - suc i) (G .next s))))
-
-  pub draws-end : (xs : List Float) (n i s : ℕ) → n ≤ i → length xs ≡ n → take i xs ++ draws G (n - i) s ≡ xs
-  unfolding draws
-  draws-end xs n i s h e = let z : n - i ≡ 0 = omega arith in rw (z, append-nil) (take-all i xs (omega arith))
-
-  draws-length : (n s : ℕ) → length (draws G n s) ≡ n
-  unfolding draws
-  draws-length zero s = refl
-  draws-length (suc n) s = ap suc (draws-length n (G .next s))
-
-  draws-add : (n m s : ℕ) → draws G (n + m) s ≡ draws G n s ++ draws G m (generator-after (G .next) n s)
-  unfolding draws generator-after
-  draws-add zero m s = let z : 0 + m ≡ m = omega arith in rw z
-  draws-add (suc n) m s = let z : suc n + m ≡ suc (n + m) = omega arith in rw (z, draws-add n m (G .next s))
-
-  -- direction by direction
-  pub drawn-are : (d k s : ℕ) → chunks d k (draws G (k * d) s) ≡ drawn-directions G d k s
-  unfolding chunks drawn-directions
-  drawn-are d zero s = refl
-  drawn-are d (suc k) s =
-      let l : length (draws G d s) ≡ d = draws-length d s in
-      rw (
-        suc-mul,
-        add-comm (k * d) d,
-        draws-add d (k * d) s,
-        take-at (draws G d s) (draws G (k * d) (generator-after (G .next) d s)) d l,
-        drop-at (draws G d s) (draws G (k * d) (generator-after (G .next) d s)) d l,
-        drawn-are d k (generator-after (G .next) d s),
-      )
-
-pub draws-turn : (xs : List Float) (n i s s′ : ℕ) (x : Float) → i < n → length xs ≡ n → s′ ≡ next-state s → x ≡ unit (mix s′)
-    → take i xs ++ draws splitmix64 (n - i) s ≡ take (i + 1) (set xs i x) ++ draws splitmix64 (n - (i + 1)) s′
-unfolding splitmix64
-draws-turn xs n i s s′ x h e a b = draws-next splitmix64 xs n i s h e ∙ rw (b, a)
 
 -- ---- before the first window
 

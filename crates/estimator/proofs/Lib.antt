@@ -7,5 +7,4 @@ pub mod Windows
 pub mod Draws
 pub mod Closing
 pub mod Answers
-pub mod Tests
 pub mod LeadingOutputs

@@ -3,7 +3,8 @@
 // `estimate_spectrum_at` (estimate.rt) is the run that crate benettin defines: its answer and every float left in rows,
 // exponents and final state equal specs/Outputs.antt there, for every input. specs/LeadingOutputs.antt states demand 3 of
 // what this function answers and leaves, and proofs/LeadingOutputs.antt proves it. This file has the run from the draw to
-// the answer. The state, the directions and their numbers lie in arrays on the stack; nothing is allocated.
+// the answer; crate benettin has the tests and the draw. The state, the directions and their numbers lie in arrays on the
+// stack; nothing is allocated.
 pub mod estimate;
 
 ghost use mathlib.Core.Path.{_≡_};
@@ -14,10 +15,10 @@ ghost use lib.ListN.{length, take, drop, getD, replicate};
 ghost use lib.Ieee.Scale.{finite};
 ghost use Rattle.floats.specs.Arithmetic.{_⊕_, _⊗_, _⊘_};
 ghost use Rattle.system.specs.System.{dim};
-ghost use Rattle.gram_schmidt.specs.GramSchmidt as GramSchmidt;
 ghost use Rattle.benettin.specs.Run as Run;
 ghost use Rattle.benettin.specs.Estimate as Estimate;
 ghost use Rattle.benettin.specs.Outputs as Outputs;
+ghost use Rattle.benettin.specs.RunTests as Tests;
 ghost use Rattle.estimator.specs.Progress as Under;
 ghost use Rattle.estimator.specs.Start as Start;
 use benettin::SpectrumEstimate;
@@ -334,28 +335,6 @@ fn measure(
     p
 }
 
-// The directions, drawn one entry after the other.
-fn draw_directions(tangents: &mut [f64], seed: u64)
-    ensures { λ _. ⌜ now (tangents .exit) ≡ Run.draws Estimate.splitmix64 (length (now (tangents .entry))) seed ⌝ }
-{
-    let mut state = seed;
-    let mut i = 0;
-    while i < tangents.len() {
-        let draw = splitmix64::SplitMix64::new(state).symmetric_unit();
-        let generator = draw.generator;
-        tangents[i] = draw.value;
-        state = generator.state;
-        i += 1;
-    }
-}
-
-fn initialize_basis(tangents: &mut [f64], d: usize, norms: &mut [f64], seed: u64) -> Outcome
-    ensures { λ r. ⌜ GramSchmidt.left r (now (tangents .exit)) (now (norms .exit)) ≡ GramSchmidt.orthonormalised (Run.draws Estimate.splitmix64 (length (now (tangents .entry))) seed) d (now (norms .entry)) ⌝ }
-{
-    draw_directions(tangents, seed);
-    gram_schmidt::modified_gram_schmidt(tangents, d, norms)
-}
-
 // Nothing done yet.
 fn fresh(outcome: Outcome, time: f64) -> Progress
     ensures { λ r. ⌜ r ≡ Start.fresh outcome time ⌝ }
@@ -390,7 +369,7 @@ fn prepare(
         × Under.Within k (warm * count) warm 0 (Start.fresh Outcome.Accepted time) r ⌝ }
 {
     let d = state.len();
-    if let Outcome::Refused(e) = initialize_basis(tangents, d, norms, seed) {
+    if let Outcome::Refused(e) = benettin::basis::initialize_basis(tangents, d, norms, seed) {
         return fresh(Outcome::Refused(e), time);
     }
     let duration = h * as_float(count);
@@ -545,7 +524,7 @@ fn run(
     windows: u64,
     seed: u64,
 ) -> SpectrumEstimate
-    requires { ⌜ Start.Ready system (now matrix) h time (now state) k count windows warm × (length (now tangents) ≡ k * length (now state))
+    requires { ⌜ Tests.Ready system (now matrix) h time (now state) k count windows warm × (length (now tangents) ≡ k * length (now state))
         × (windows * (1 + 2 * k) ≤ length (now rows)) × (k ≤ length (now exponents)) × (length (now state) ≤ length (now «final_state»)) ⌝ }
     ensures { λ r. ⌜ Outputs.left r (now (rows .exit)) (now (exponents .exit)) (now («final_state» .exit))
         ≡ Outputs.outputs k windows (now (rows .entry)) (now (exponents .entry)) (now («final_state» .entry))

@@ -11,8 +11,8 @@ use lib.Ieee.{Float}
 use Rattle.error.specs.Refusal.{reported}
 use Rattle.error.specs.Tests.{first-failing}
 use Rattle.benettin.specs.Estimate.{Input, input}
-use Rattle.estimator.specs.Start.{Ready, run-tests}
-use Rattle.estimator.proofs.Tests.{ready, tests-are}
+use Rattle.benettin.specs.RunTests.{Ready, run-tests}
+use Rattle.benettin.proofs.RunTests.{ready, tests-are}
 use Rattle.estimator.proofs.Answers.{refused-by-tests, run-by-tests, front, few-entries, ready-front}
 use Rattle.estimator.proofs.estimate.estimate_spectrum_at.Statement.{statement}
 use Rattle.estimator.proofs.estimate.estimate_spectrum_at.Tie as tie

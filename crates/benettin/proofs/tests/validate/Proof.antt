@@ -1,15 +1,15 @@
--- `estimator::estimate::validate` meets its contract.
+-- `benettin::tests::validate` meets its contract.
 use borrow.Author.Needs.{needs}
 use mathlib.Core.Path.{_≡_, sym, ap, _∙_}
 use mathlib.Core.Option.{none}
 use Rattle.error.specs.Refusal.{reported}
 use Rattle.error.specs.Tests.{first-failing, _else_}
 use Rattle.error.proofs.Tests.{else-stop, else-go}
 use Rattle.benettin.specs.Estimate.{Input, input}
-use Rattle.estimator.specs.Start.{run-tests}
-use Rattle.estimator.proofs.Tests.{parts, settings, start, outputs, settings-pass, start-pass}
-use Rattle.estimator.proofs.estimate.validate.Statement.{statement}
-use Rattle.estimator.proofs.estimate.validate.Tie as tie
+use Rattle.benettin.specs.RunTests.{run-tests}
+use Rattle.benettin.proofs.RunTests.{parts, settings, start, outputs, settings-pass, start-pass}
+use Rattle.benettin.proofs.tests.validate.Statement.{statement}
+use Rattle.benettin.proofs.tests.validate.Tie as tie
 
 abbrev input-of : tie.Start → Input
 input-of c = input (c .args .system) (c .args .matrix .now) (c .args .time) (c .args .state .now) (c .args .config)

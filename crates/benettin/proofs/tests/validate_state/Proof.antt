@@ -1,10 +1,10 @@
--- `estimator::estimate::validate_state` meets its contract.
+-- `benettin::tests::validate_state` meets its contract.
 use borrow.Author.Needs.{needs}
 use borrow.Author.Tests.{eq-eqb, ne-eqb}
 use Rattle.error.proofs.Tests.{skip, stop, none-left}
-use Rattle.estimator.proofs.Tests.{stop-at, skip-nowhere}
-use Rattle.estimator.proofs.estimate.validate_state.Statement.{statement}
-use Rattle.estimator.proofs.estimate.validate_state.Tie as tie
+use Rattle.benettin.proofs.RunTests.{stop-at, skip-nowhere}
+use Rattle.benettin.proofs.tests.validate_state.Statement.{statement}
+use Rattle.benettin.proofs.tests.validate_state.Tie as tie
 
 first-not-finite-requires : tie.Need-first-not-finite-requires
 first-not-finite-requires c κs = search needs

@@ -18,11 +18,11 @@ use Rattle.floats.specs.declared.Position.{Position}
 use Rattle.floats.specs.declared.Position.the-variants.{At, Nowhere}
 use Rattle.system.specs.System.{dim, matrix-fits}
 use Rattle.system.specs.declared.System.{System}
 use Rattle.benettin.specs.Run as Run
 use Rattle.benettin.specs.Run.{all-tests}
 use Rattle.benettin.specs.Estimate.{Input, limit, setting-tests, start-tests, is-none, problem, dynamics}
 use Rattle.benettin.specs.Outputs.{lengths-of}
-use Rattle.estimator.specs.Start.{output-tests, run-tests, Ready}
+use Rattle.benettin.specs.RunTests.{output-tests, run-tests, Ready}
 
 -- ---- 11, by the position that the code found
 

@@ -1,11 +1,11 @@
--- `estimator::initialize_basis` meets its contract.
+-- `benettin::basis::initialize_basis` meets its contract.
 use borrow.Author.Needs.{needs}
 use mathlib.Core.Path.{ap, _∙_}
 use mathlib.Core.List.{List}
 use lib.Ieee.{Float}
 use Rattle.gram_schmidt.specs.GramSchmidt.{orthonormalised}
-use Rattle.estimator.proofs.initialize_basis.Statement.{statement}
-use Rattle.estimator.proofs.initialize_basis.Tie as tie
+use Rattle.benettin.proofs.basis.initialize_basis.Statement.{statement}
+use Rattle.benettin.proofs.basis.initialize_basis.Tie as tie
 
 draw-directions-requires : tie.Need-draw-directions-requires
 draw-directions-requires c κs = search needs

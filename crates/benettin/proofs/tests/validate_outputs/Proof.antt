@@ -1,4 +1,4 @@
--- `estimator::estimate::validate_outputs` meets its contract. `past-n`: the first n tests are passed, so that those behind them decide.
+-- `benettin::tests::validate_outputs` meets its contract. `past-n`: the first n tests are passed, so that those behind them decide.
 use borrow.Author.Needs.{needs}
 use borrow.Author.Tests.{le-leb, lt-leb}
 use Prim.Native.Nat.{ℕ}
@@ -9,10 +9,10 @@ use lib.ListN.{drop}
 use Rattle.error.specs.Tests.{first-failing}
 use Rattle.error.specs.declared.Refusal.{Refusal}
 use Rattle.error.proofs.Tests.{skip, stop, none-left}
-use Rattle.estimator.specs.Start.{output-tests}
-use Rattle.estimator.proofs.Tests.{rows-fit}
-use Rattle.estimator.proofs.estimate.validate_outputs.Statement.{statement}
-use Rattle.estimator.proofs.estimate.validate_outputs.Tie as tie
+use Rattle.benettin.specs.RunTests.{output-tests}
+use Rattle.benettin.proofs.RunTests.{rows-fit}
+use Rattle.benettin.proofs.tests.validate_outputs.Statement.{statement}
+use Rattle.benettin.proofs.tests.validate_outputs.Tie as tie
 
 abbrev from : ℕ → tie.Start → Option Refusal
 from n c = first-failing (drop n (output-tests (c .args .k) (c .args .d) (c .args .windows) (c .args .rows) (c .args .exponents) (c .args .last)))
