@@ -104,11 +104,11 @@ module _ (S : System) (m : List Float) (h : Float) (n w k : ℕ) (x t₀ norms :
       )
 
   -- 15
-  pub ready-15 : (u : Float) → r ≡ Accepted → u ≡ as-float n → finite (h ⊗ u) ≡ false → refused (refused-at 15 0 c₀) ≡ warmed-up (dynamics S m h n) n w c₀
+  pub ready-15 : (u : Float) → r ≡ Accepted → u ≡ h ⊗ as-float n → finite u ≡ false → refused (refused-at 15 0 c₀) ≡ warmed-up (dynamics S m h n) n w c₀
   unfolding warmed-up _then_ check-duration dynamics
   ready-15 u f ν b = let b′ : finite (h ⊗ as-float n) ≡ false = rw ν at b in rw (basis-done f, b′)
 
-  pub ready-warm : (u : Float) (p : Progress) (o : Status) → r ≡ Accepted → u ≡ as-float n → finite (h ⊗ u) ≡ true → p ≡ fresh Accepted time
+  pub ready-warm : (u : Float) (p : Progress) (o : Status) → r ≡ Accepted → u ≡ h ⊗ as-float n → finite u ≡ true → p ≡ fresh Accepted time
       → o ≡ warm-up (dynamics S m h n) n w (run-state (dim S) k x t′ norms′ p) → o ≡ warmed-up (dynamics S m h n) n w c₀
   unfolding warmed-up _then_ check-duration dynamics
   ready-warm u p o f ν b π ω = let b′ : finite (h ⊗ as-float n) ≡ true = rw ν at b in ω ∙ rw (basis-done f, b′, π)

@@ -24,7 +24,7 @@ use Rattle.system.specs.declared.System.{System}
 use Rattle.benettin.specs.Run.{Dynamics, RunState, RunRefusal, Status, ok, refused, steps, window, warm-up, measured, with-row, accumulate, row, as-float, Course, _then_}
 use Rattle.benettin.specs.Estimate.{dynamics}
 use Rattle.benettin.specs.Outputs.{flat-row, flat-rows}
-use Rattle.estimator.specs.Progress.{run-state, refused-by, status, updated, Within, Room, Fitting, Recorded, recorded, written, with-row-of}
+use Rattle.estimator.specs.Progress.{run-state, refused-by, status, updated, with-sums, Within, Room, Fitting, Recorded, recorded, written, with-row-of}
 use Rattle.estimator.specs.declared.Progress.{Progress}
 use Rattle.estimator.proofs.Lists.{updated-take, updated-length}
 use Rattle.estimator.specs.Progress.{Stepping}
@@ -119,31 +119,33 @@ module _ (M : Dynamics) (old : List Float) (o : Status) (c : RunState) (v : Outc
   turn-done : (c′ : RunState) (new : List Float) → v ≡ Accepted → c′ ≡ accumulate c → new ≡ flat-row (row M c′) → recorded new (ok c′) ≡ with-row-of M old o
   turn-done c′ new g f h = rw (← e, g, h, f)
 
-abbrev pub added-as : Progress → List Float → Progress
-added-as q s = record { outcome = Accepted; windows = q .windows + 1; steps = q .steps; time = q .time; faint = q .faint; sums = s }
+module _ (S : System) (m : List Float) (h : Float) (n k : ℕ) (x t norms : List Float) (q : Progress) (l : length norms ≡ 32) (f : k ≤ 16) (z : length (q .sums) ≡ 16) where
+  abbrev added : Progress
+  added = with-sums q (updated (_⊕_) (q .sums) (take k norms))
 
-module _ (S : System) (m : List Float) (h : Float) (n k : ℕ) (x t norms : List Float) (q : Progress) (added : List Float) (l : length norms ≡ 32) (f : k ≤ 16) (z : length (q .sums) ≡ 16)
-    (a : added ≡ updated (_⊕_) (q .sums) (take k norms)) where
   logs-many : length (take k norms) ≡ k
   logs-many = length-take-le k norms (omega arith)
 
-  sums-are : take k added ≡ zip (_⊕_) (take k (q .sums)) (take k norms)
-  sums-are = ap (take k) a ∙ updated-take (_⊕_) (q .sums) (take k norms) k logs-many (omega arith)
+  sums-are : take k (added .sums) ≡ zip (_⊕_) (take k (q .sums)) (take k norms)
+  sums-are = updated-take (_⊕_) (q .sums) (take k norms) k logs-many (omega arith)
 
-  accounted : run-state (dim S) k x t norms (added-as q added) ≡ accumulate (run-state (dim S) k x t norms q)
+  accounted : run-state (dim S) k x t norms added ≡ accumulate (run-state (dim S) k x t norms q)
   unfolding accumulate
   accounted = rw (sums-are, add-one)
 
-  pub measured-done : (o : Status) (old new : List Float) (u w : Float) → status (q .outcome) (run-state (dim S) k x t norms q) ≡ o → q .outcome ≡ Accepted → u ≡ as-float n → w ≡ as-float (q .windows + 1)
-      → new ≡ q .time ∷ map (λ y. y ⊘ (h ⊗ u)) (take k norms) ++ map (λ y. y ⊘ (h ⊗ u ⊗ w)) (take (length (take k norms)) added)
-      → recorded new (ok (run-state (dim S) k x t norms (added-as q added))) ≡ with-row-of (dynamics S m h n) old o
+  pub measured-done : (p : Progress) (o : Status) (old new : List Float) (u w : Float) → p ≡ added → status (q .outcome) (run-state (dim S) k x t norms q) ≡ o → q .outcome ≡ Accepted → u ≡ h ⊗ as-float n → w ≡ as-float (p .windows)
+      → new ≡ p .time ∷ map (λ y. y ⊘ u) (take k norms) ++ map (λ y. y ⊘ (u ⊗ w)) (take (length (take k norms)) (p .sums))
+      → recorded new (status (p .outcome) (run-state (dim S) k x t norms p)) ≡ with-row-of (dynamics S m h n) old o
   unfolding row dynamics
-  measured-done o old new u w e g eu ew en =
-      turn-done (dynamics S m h n) old o (run-state (dim S) k x t norms q) (q .outcome) e (run-state (dim S) k x t norms (added-as q added)) new g accounted (en ∙ rw (eu, ew, logs-many))
+  measured-done p o old new u w ep e g eu ew en =
+      let ew′ : w ≡ as-float (q .windows + 1) = ew ∙ ap (λ (r : Progress). as-float (r .windows)) ep in
+      let s : status (p .outcome) (run-state (dim S) k x t norms p) ≡ ok (run-state (dim S) k x t norms added) = rw (ep, g) in
+      ap (recorded new) s
+      ∙ turn-done (dynamics S m h n) old o (run-state (dim S) k x t norms q) (q .outcome) e (run-state (dim S) k x t norms added) new g accounted (en ∙ rw (ep, eu, ew′, logs-many))
 
-  pub within-added : (made : ℕ) (p : Progress) → Within k made 1 0 p q → Within k made 1 1 p (added-as q added)
-  within-added made p y =
-      record { behind = y .behind; counts = y .counts; totals = ap length a ∙ updated-length (_⊕_) (q .sums) (take k norms) ∙ y .totals; clock = y .clock; steps = y .steps; windows = omega (arith, y .windows); faint = y .faint }
+  pub within-added : (made : ℕ) (r p : Progress) → p ≡ added → Within k made 1 0 r q → Within k made 1 1 r p
+  within-added made r p e y =
+      rw e (record { behind = y .behind; counts = y .counts; totals = updated-length (_⊕_) (q .sums) (take k norms) ∙ y .totals; clock = y .clock; steps = y .steps; windows = omega (arith, y .windows); faint = y .faint })
 
 -- a refusal counts no window
 pub within-more : (k made : ℕ) (p q : Progress) → Within k made 1 0 p q → Within k made 1 1 p q

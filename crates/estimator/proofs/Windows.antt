@@ -6,7 +6,7 @@ use mathlib.Core.Path.{_≡_, refl, sym, ap, _∙_}
 use mathlib.Core.List.{List, [], _++_}
 use mathlib.Core.Option.{Option, none, some}
 use borrow.Author.Tests.{ne-eqb, le-ltb}
-use lib.ListN.{length, take, drop, length-take}
+use lib.ListN.{length, take, drop}
 use lib.Seq.{take-at, drop-at}
 use lib.Ieee.{Float}
 use mathlib.Core.Bool.{true}
@@ -27,7 +27,7 @@ use Rattle.gram_schmidt.proofs.Finished.{after, numbers-length}
 use Rattle.benettin.specs.Run.{Dynamics, RunState, RunRefusal, ok, refused, steps, unless-collapsed, reorthonormalise, with-basis, count-faint, window, _then_}
 use Rattle.benettin.specs.Estimate.{dynamics}
 use Rattle.benettin.proofs.Prefix.{orthonormalise-sized, orthonormalise-whole}
-use Rattle.estimator.specs.Progress.{with-steps, run-state, refused-by, status, updated, counted, Within}
+use Rattle.estimator.specs.Progress.{with-steps, run-state, refused-by, status, moved, with-faint, updated, counted, Within}
 use Rattle.estimator.specs.declared.Advance.{Advance}
 use Rattle.estimator.specs.declared.Progress.{Progress}
 use Rattle.estimator.proofs.Lists.{updated-take, updated-drop, updated-length, counted-more}
@@ -106,25 +106,22 @@ module _ (M : Dynamics) (n : ℕ) (c : RunState) where
   unfolding window _then_
   window-ok e f g h = rw (g, h)
 
-abbrev pub counted-as : Progress → Advance → List ℕ → Progress
-counted-as p a f = record { outcome = Accepted; windows = p .windows; steps = a .steps; time = a .time; faint = f; sums = p .sums }
-
 module _ (S : System) (m : List Float) (h : Float) (n k : ℕ) (x t norms : List Float) (p : Progress) (a : Advance) (x′ t′ : List Float)
-    (A : (c : RunState) → status (a .outcome) (with-steps (dim S) k c x′ t′ (a .time) (a .steps)) ≡ steps (dynamics S m h n) n (with-steps (dim S) k c x t (p .time) (p .steps))) where
+    (A : (c : RunState) (made : ℕ) → status (a .outcome) (with-steps (dim S) k c x′ t′ (a .time) (made + a .steps)) ≡ steps (dynamics S m h n) n (with-steps (dim S) k c x t (p .time) made)) where
   abbrev c₀ : RunState
   c₀ = run-state (dim S) k x t norms p
 
   abbrev c₁ : RunState
-  c₁ = with-steps (dim S) k c₀ x′ t′ (a .time) (a .steps)
+  c₁ = with-steps (dim S) k c₀ x′ t′ (a .time) (p .steps + a .steps)
 
   -- a step refused
-  pub window-16 : (ε : LyapunovError) → a .outcome ≡ Refused ε → refused (refused-by ε c₁) ≡ window (dynamics S m h n) n c₀
-  window-16 ε v = sym (window-refused (dynamics S m h n) n c₀ (refused-by ε c₁) (sym (A c₀) ∙ rw v))
+  pub window-16 : (q : Progress) (ε : LyapunovError) → q ≡ moved p (a .outcome) (a .time) (a .steps) → a .outcome ≡ Refused ε → status (q .outcome) (run-state (dim S) k x′ t′ norms q) ≡ window (dynamics S m h n) n c₀
+  window-16 q ε e v = rw (e, v) (sym (window-refused (dynamics S m h n) n c₀ (refused-by ε c₁) (sym (A c₀ (p .steps)) ∙ rw v)))
 
   module _ (v : a .outcome ≡ Accepted) (d : ℕ) (δ : dim S ≡ d) (z : 0 < d) (g : k ≤ 16) (l : length t′ ≡ k * d) (w : length norms ≡ 32)
       (r : Outcome) (t″ norms′ : List Float) (e : GramSchmidt.left r t″ norms′ ≡ orthonormalised t′ d norms) where
-    moved : steps (dynamics S m h n) n c₀ ≡ ok c₁
-    moved = sym (A c₀) ∙ rw v
+    stepped : steps (dynamics S m h n) n c₀ ≡ ok c₁
+    stepped = sym (A c₀ (p .steps)) ∙ rw v
 
     e′ : GramSchmidt.left r t″ norms′ ≡ orthonormalised t′ (dim S) norms
     e′ = e ∙ ap (λ (j : ℕ). orthonormalised t′ j norms) (sym δ)
@@ -136,18 +133,21 @@ module _ (S : System) (m : List Float) (h : Float) (n k : ℕ) (x t norms : List
     l′ = l ∙ ap (λ (j : ℕ). k * j) (sym δ)
 
     -- a collapse
-    pub window-14 : (ε : LyapunovError) → r ≡ Refused ε → refused (refused-by ε c₁) ≡ window (dynamics S m h n) n c₀
+    collapsed : (ε : LyapunovError) → r ≡ Refused ε → refused (refused-by ε c₁) ≡ window (dynamics S m h n) n c₀
     unfolding reorthonormalise dynamics
-    window-14 ε f =
+    collapsed ε f =
         sym
-        (window-broken (dynamics S m h n) n c₀ c₁ (refused-by ε c₁) moved
+        (window-broken (dynamics S m h n) n c₀ c₁ (refused-by ε c₁) stepped
         (collapsed-refused (basis (dim S) k t′ .collapse) c₁ (basis (dim S) k t′) ε (sym (ap reported f) ∙ reported-is (dim S) k t′ norms z′ g l′ w r t″ norms′ e′)))
 
+    pub window-14 : (q : Progress) (ε : LyapunovError) → q ≡ moved p (Refused ε) (a .time) (a .steps) → r ≡ Refused ε → status (q .outcome) (run-state (dim S) k x′ t″ norms′ q) ≡ window (dynamics S m h n) n c₀
+    window-14 q ε e f = rw e (collapsed ε f)
+
     -- none
-    pub window-done : (faint : List ℕ) → r ≡ Accepted → k ≤ length (p .faint) → faint ≡ updated counted (p .faint) (take (k + k - k) (drop k norms′))
-        → ok (run-state (dim S) k x′ t″ norms′ (counted-as p a faint)) ≡ window (dynamics S m h n) n c₀
+    counted-done : (faint : List ℕ) → r ≡ Accepted → k ≤ length (p .faint) → faint ≡ updated counted (p .faint) (take (k + k - k) (drop k norms′))
+        → ok (run-state (dim S) k x′ t″ norms′ (with-faint (moved p Accepted (a .time) (a .steps)) faint)) ≡ window (dynamics S m h n) n c₀
     unfolding reorthonormalise unless-collapsed count-faint dynamics
-    window-done faint f len e₅ =
+    counted-done faint f len e₅ =
         let b = basis (dim S) k t′ in
         let u : k + k - k ≡ k = omega arith in
         let D = directions-are (dim S) k t′ norms z′ g l′ w r t″ norms′ e′ f in
@@ -155,25 +155,27 @@ module _ (S : System) (m : List Float) (h : Float) (n k : ℕ) (x t norms : List
         let N = reports-are (dim S) k t′ norms z′ g l′ w r t″ norms′ e′ f in
         let F : take k faint ≡ zip counted (take k (p .faint)) (b .reports) =
         ap (take k) (e₅ ∙ rw u) ∙ updated-take counted (p .faint) (take k (drop k norms′)) k (reports-many (dim S) k t′ norms z′ g l′ w r t″ norms′ e′ f) len ∙ rw N in
-        sym (window-ok (dynamics S m h n) n c₀ c₁ (with-basis c₁ b) moved (rw (whole (dim S) k t′ norms z′ g l′ w r t″ norms′ e′ f)) ∙ rw (D, L, N, F))
+        sym (window-ok (dynamics S m h n) n c₀ c₁ (with-basis c₁ b) stepped (rw (whole (dim S) k t′ norms z′ g l′ w r t″ norms′ e′ f)) ∙ rw (D, L, N, F))
 
-    pub window-within : (faint : List ℕ) → finite (a .time) ≡ true → a .steps ≤ p .steps + n → faint ≡ updated counted (p .faint) (take (k + k - k) (drop k norms′)) → Within k n 1 0 p (counted-as p a faint)
-    window-within faint τ b e =
-        let q : length (take (k + k - k) (drop k norms′)) ≤ k = rw length-take (omega arith) in
-        record {
-          behind = rw e (updated-drop counted (p .faint) _ k q);
-          counts = rw e (updated-length counted (p .faint) _);
-          totals = refl;
-          clock = τ;
-          steps = b;
-          windows = omega arith;
-          faint = λ i. rw e (counted-more (p .faint) _ i);
-        }
+    pub window-done : (q u : Progress) → r ≡ Accepted → k ≤ length (p .faint) → q ≡ moved p (a .outcome) (a .time) (a .steps) → u ≡ with-faint q (updated counted (q .faint) (take (k + k - k) (drop k norms′)))
+        → status (u .outcome) (run-state (dim S) k x′ t″ norms′ u) ≡ window (dynamics S m h n) n c₀
+    window-done q u f len eq eu = rw (eu, eq, v) (counted-done (updated counted (p .faint) (take (k + k - k) (drop k norms′))) f len refl)
 
 -- ---- what is kept beside it
 
-abbrev pub stopped-as : Progress → Advance → LyapunovError → Progress
-stopped-as p a ε = record { outcome = Refused ε; windows = p .windows; steps = a .steps; time = a .time; faint = p .faint; sums = p .sums }
+pub within-moved : (k n : ℕ) (p q : Progress) (v : Outcome) (time : Float) (made : ℕ) → finite time ≡ true → made ≤ n → q ≡ moved p v time made → Within k n 1 0 p q
+within-moved k n p q v time made f h e = rw e (record { behind = refl; counts = refl; totals = refl; clock = f; steps = omega arith; windows = omega arith; faint = λ i. omega arith })
 
-pub within-same : (k made : ℕ) (p : Progress) (a : Advance) (ε : LyapunovError) → finite (a .time) ≡ true → a .steps ≤ p .steps + made → Within k made 1 0 p (stopped-as p a ε)
-within-same k made p a ε f h = record { behind = refl; counts = refl; totals = refl; clock = f; steps = h; windows = omega arith; faint = λ i. omega arith }
+pub within-counted : (k n : ℕ) (p q u : Progress) (v : Outcome) (time : Float) (made : ℕ) (squares : List Float) → finite time ≡ true → made ≤ n → q ≡ moved p v time made → length squares ≤ k
+    → u ≡ with-faint q (updated counted (q .faint) squares) → Within k n 1 0 p u
+within-counted k n p q u v time made squares f h eq l eu =
+    rw (eu, eq)
+    (record {
+      behind = updated-drop counted (p .faint) squares k l;
+      counts = updated-length counted (p .faint) squares;
+      totals = refl;
+      clock = f;
+      steps = omega arith;
+      windows = omega arith;
+      faint = λ i. counted-more (p .faint) squares i;
+    })

@@ -17,8 +17,13 @@ use Rattle.floats.specs.Finite.{positive}
 use Rattle.system.specs.declared.System.{System}
 use Rattle.gram_schmidt.specs.GramSchmidt.{euclidean}
 use Rattle.benettin.specs.Run.{Dynamics, RunState, RunRefusal, Status, ok, refused, refused-at, Course, faint-or-not, row, accumulate}
+use Rattle.benettin.specs.Estimate.{dynamics}
 use Rattle.benettin.specs.Outputs.{flat-row, flat-rows}
+use Rattle.benettin.specs.declared.BenettinConfig.{BenettinConfig}
 use Rattle.estimator.specs.declared.Progress.{Progress}
+
+abbrev pub dynamics-of : System → List Float → BenettinConfig → Dynamics
+dynamics-of S m c = dynamics S m (c .«step_size») (c .«steps_per_window»)
 
 -- c with what steps change: the state, the directions, which lie one after the other, the time and the steps made
 abbrev pub with-steps : ℕ → ℕ → RunState → List Float → List Float → Float → ℕ → RunState
@@ -47,6 +52,17 @@ refused-by e c = refused-at (refusal e .number) (refusal e .place) c
 abbrev pub status : Outcome → RunState → Status
 status Accepted c = ok c
 status (Refused e) c = refused (refused-by e c)
+
+-- p after so many steps more, by an outcome, at another time
+abbrev pub moved : Progress → Outcome → Float → ℕ → Progress
+moved p v time made = record { outcome = v; windows = p .windows; steps = p .steps + made; time = time; faint = p .faint; sums = p .sums }
+
+abbrev pub with-faint : Progress → List ℕ → Progress
+with-faint p f = record { outcome = p .outcome; windows = p .windows; steps = p .steps; time = p .time; faint = f; sums = p .sums }
+
+-- p with one measured window more
+abbrev pub with-sums : Progress → List Float → Progress
+with-sums p s = record { outcome = p .outcome; windows = p .windows + 1; steps = p .steps; time = p .time; faint = p .faint; sums = s }
 
 -- f at each entry of xs that ys has one for
 unfoldable pub updated {a b} : {A : Type a} {B : Type b} → (A → B → A) → List A → List B → List A

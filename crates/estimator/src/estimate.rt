@@ -34,13 +34,8 @@ pub fn estimate_spectrum_at(
     ) {
         return crate::refused(e, 0, 0);
     }
-    let k = config.top_k;
-    let h = config.step_size;
-    let count = config.steps_per_window;
-    let windows = config.windows;
-    let warm = config.transient_windows;
     let d = state.len();
-    let kd = k * d;
+    let kd = config.top_k * d;
     let mut moving = [0.0; 16];
     crate::copy_to(&mut moving[..d], state);
     let mut tangents = [0.0; 256];
@@ -53,12 +48,7 @@ pub fn estimate_spectrum_at(
         rows,
         exponents,
         final_state,
-        k,
-        h,
-        count,
-        warm,
-        windows,
-        config.seed,
+        config,
     )
 }
 

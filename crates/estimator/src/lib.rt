@@ -21,12 +21,13 @@ ghost use Rattle.benettin.specs.Outputs as Outputs;
 ghost use Rattle.benettin.specs.RunTests as Tests;
 ghost use Rattle.estimator.specs.Progress as Under;
 ghost use Rattle.estimator.specs.Start as Start;
+use benettin::BenettinConfig;
 use benettin::SpectrumEstimate;
 use error::LyapunovError;
 use error::Outcome;
 use system::System;
 
-// What the steps of a window come to.
+// What the steps of a window come to: how many were made, and the time after them.
 pub struct Advance {
     pub outcome: Outcome,
     pub time: f64,
@@ -49,54 +50,74 @@ fn advance_window(
     matrix: &[f64],
     state: &mut [f64],
     tangents: &mut [f64],
-    k: usize,
-    h: f64,
-    count: u64,
+    config: BenettinConfig,
     start: f64,
-    made: u64,
 ) -> Advance
-    requires { ⌜ Under.Stepping system (now matrix) h start (now state) (now tangents) k × (made + count < 2 ^ 64) ⌝ }
-    ensures { λ r. ⌜ ((c : Run.RunState) → Under.status (r .outcome) (Under.with-steps (dim system) k c (now (state .exit)) (now (tangents .exit)) (r .time) (r .steps))
-        ≡ Run.steps (Estimate.dynamics system (now (matrix .entry)) h count) count (Under.with-steps (dim system) k c (now (state .entry)) (now (tangents .entry)) start made))
-        × (r .steps ≤ made + count) × (finite (r .time) ≡ true) ⌝ }
+    requires { ⌜ Under.Stepping system (now matrix) (config .«step_size») start (now state) (now tangents) (config .«top_k») ⌝ }
+    ensures { λ r. ⌜ ((c : Run.RunState) (made : ℕ) → Under.status (r .outcome) (Under.with-steps (dim system) (config .«top_k») c (now (state .exit)) (now (tangents .exit)) (r .time) (made + r .steps))
+        ≡ Run.steps (Under.dynamics-of system (now (matrix .entry)) config) (config .«steps_per_window») (Under.with-steps (dim system) (config .«top_k») c (now (state .entry)) (now (tangents .entry)) start made))
+        × (r .steps ≤ config .«steps_per_window») × (finite (r .time) ≡ true) ⌝ }
 {
     let mut time = start;
-    let mut steps = made;
     let mut i: u64 = 0;
-    while i < count {
-        if let Outcome::Refused(e) = rk4::step(system, matrix, time, state, tangents, k, h) {
+    while i < config.steps_per_window {
+        if let Outcome::Refused(e) = rk4::step(
+            system,
+            matrix,
+            time,
+            state,
+            tangents,
+            config.top_k,
+            config.step_size,
+        ) {
             return Advance {
                 outcome: Outcome::Refused(e),
                 time,
-                steps,
+                steps: i,
             };
         }
-        let next = time + h;
+        let next = time + config.step_size;
         if floats::is_finite(next) {
             time = next;
-            steps += 1;
             i += 1;
         } else {
             return Advance {
                 outcome: Outcome::Refused(LyapunovError::InvalidTime),
                 time,
-                steps,
+                steps: i,
             };
         }
     }
     Advance {
         outcome: Outcome::Accepted,
         time,
-        steps,
+        steps: i,
     }
 }
 
-// The faint counts with one window more.
-fn count_faint(faint: [u64; 16], squares: &[f64]) -> [u64; 16]
-    requires { ⌜ (length (now squares) ≤ 16) × ((i : ℕ) → getD faint i 0 + 1 < 2 ^ 64) ⌝ }
-    ensures { λ r. ⌜ r ≡ Under.updated Under.counted faint (now (squares .entry)) ⌝ }
+// The progress after so many steps more, at another time.
+fn moved(from: Progress, outcome: Outcome, time: f64, made: u64) -> Progress
+    requires { ⌜ from .steps + made < 2 ^ 64 ⌝ }
+    ensures { λ r. ⌜ r ≡ Under.moved from outcome time made ⌝ }
 {
-    let mut out = faint;
+    let faint = from.faint;
+    let sums = from.sums;
+    Progress {
+        outcome,
+        windows: from.windows,
+        steps: from.steps + made,
+        time,
+        faint,
+        sums,
+    }
+}
+
+// The progress with the faint counts of one window more.
+fn count_faint(from: Progress, squares: &[f64]) -> Progress
+    requires { ⌜ (length (now squares) ≤ 16) × ((i : ℕ) → getD (from .faint) i 0 + 1 < 2 ^ 64) × (length (from .faint) ≡ 16) ⌝ }
+    ensures { λ r. ⌜ r ≡ Under.with-faint from (Under.updated Under.counted (from .faint) (now (squares .entry))) ⌝ }
+{
+    let mut out = from.faint;
     let mut i = 0;
     while i < squares.len() {
         // 2^-960
@@ -105,20 +126,26 @@ fn count_faint(faint: [u64; 16], squares: &[f64]) -> [u64; 16]
         }
         i += 1;
     }
-    out
+    let mut p = from;
+    p.faint = out;
+    p
 }
 
-fn add_logs(sums: [f64; 16], logs: &[f64]) -> [f64; 16]
-    requires { ⌜ length (now logs) ≤ 16 ⌝ }
-    ensures { λ r. ⌜ r ≡ Under.updated (_⊕_) sums (now (logs .entry)) ⌝ }
+// The progress with one measured window more.
+fn add_logs(from: Progress, logs: &[f64]) -> Progress
+    requires { ⌜ (length (now logs) ≤ 16) × (from .windows + 1 < 2 ^ 64) × (length (from .sums) ≡ 16) ⌝ }
+    ensures { λ r. ⌜ r ≡ Under.with-sums from (Under.updated (_⊕_) (from .sums) (now (logs .entry))) ⌝ }
 {
-    let mut out = sums;
+    let mut out = from.sums;
     let mut i = 0;
     while i < logs.len() {
         out[i] = out[i] + logs[i];
         i += 1;
     }
-    out
+    let mut p = from;
+    p.sums = out;
+    p.windows = from.windows + 1;
+    p
 }
 
 // Each value divided by the same number, into a row's part of the same length.
@@ -134,13 +161,14 @@ fn write_rates(row: &mut [f64], values: &[f64], by: f64)
 }
 
 // One row: the end time, the locals, the runnings.
-fn write_row(row: &mut [f64], time: f64, logs: &[f64], sums: [f64; 16], duration: f64, elapsed: f64)
-    requires { ⌜ (length (now row) ≡ 1 + 2 * length (now logs)) × (length (now logs) ≤ 16) ⌝ }
-    ensures { λ _. ⌜ now (row .exit) ≡ time ∷ map (λ x. x ⊘ duration) (now (logs .entry)) ++ map (λ x. x ⊘ elapsed) (take (length (now (logs .entry))) sums) ⌝ }
+fn write_row(row: &mut [f64], logs: &[f64], p: Progress, duration: f64, elapsed: f64)
+    requires { ⌜ (length (now row) ≡ 1 + 2 * length (now logs)) × (length (now logs) ≤ 16) × (length (p .sums) ≡ 16) ⌝ }
+    ensures { λ _. ⌜ now (row .exit) ≡ p .time ∷ map (λ x. x ⊘ duration) (now (logs .entry)) ++ map (λ x. x ⊘ elapsed) (take (length (now (logs .entry))) (p .sums)) ⌝ }
 {
     let k = logs.len();
     let e = k + 1;
-    row[0] = time;
+    let sums = p.sums;
+    row[0] = p.time;
     write_rates(&mut row[1..e], logs, duration);
     write_rates(&mut row[e..], &sums[..k], elapsed);
 }
@@ -152,6 +180,14 @@ fn as_float(n: u64) -> f64
     (n as u32) as f64
 }
 
+// The duration of a window.
+fn duration(config: BenettinConfig) -> f64
+    requires { ⌜ config .«steps_per_window» < 2 ^ 32 ⌝ }
+    ensures { λ r. ⌜ r ≡ config .«step_size» ⊗ Run.as-float (config .«steps_per_window») ⌝ }
+{
+    config.step_size * as_float(config.steps_per_window)
+}
+
 // One window: its steps, the orthonormalisation, the faint counts.
 fn window(
     system: System,
@@ -159,56 +195,26 @@ fn window(
     state: &mut [f64],
     tangents: &mut [f64],
     norms: &mut [f64],
-    k: usize,
-    h: f64,
-    count: u64,
+    config: BenettinConfig,
     from: Progress,
 ) -> Progress
-    requires { ⌜ Under.Fitting system (now matrix) h (now state) (now tangents) (now norms) k × Under.Room count 1 0 from ⌝ }
-    ensures { λ r. ⌜ (Under.status (r .outcome) (Under.run-state (dim system) k (now (state .exit)) (now (tangents .exit)) (now (norms .exit)) r)
-        ≡ Run.window (Estimate.dynamics system (now (matrix .entry)) h count) count (Under.run-state (dim system) k (now (state .entry)) (now (tangents .entry)) (now (norms .entry)) from))
-        × Under.Within k count 1 0 from r ⌝ }
+    requires { ⌜ Under.Fitting system (now matrix) (config .«step_size») (now state) (now tangents) (now norms) (config .«top_k») × Under.Room (config .«steps_per_window») 1 0 from ⌝ }
+    ensures { λ r. ⌜ (Under.status (r .outcome) (Under.run-state (dim system) (config .«top_k») (now (state .exit)) (now (tangents .exit)) (now (norms .exit)) r)
+        ≡ Run.window (Under.dynamics-of system (now (matrix .entry)) config) (config .«steps_per_window») (Under.run-state (dim system) (config .«top_k») (now (state .entry)) (now (tangents .entry)) (now (norms .entry)) from))
+        × Under.Within (config .«top_k») (config .«steps_per_window») 1 0 from r ⌝ }
 {
-    let time = from.time;
-    let made = from.steps;
-    let windows = from.windows;
-    let faint = from.faint;
-    let sums = from.sums;
-    let a = advance_window(system, matrix, state, tangents, k, h, count, time, made);
+    let a = advance_window(system, matrix, state, tangents, config, from.time);
     let v = a.outcome;
-    let steps = a.steps;
-    let end = a.time;
-    if let Outcome::Refused(e) = v {
-        return Progress {
-            outcome: Outcome::Refused(e),
-            windows,
-            steps,
-            time: end,
-            faint,
-            sums,
-        };
+    let q = moved(from, v, a.time, a.steps);
+    let Outcome::Accepted = v else {
+        return q;
+    };
+    if let Outcome::Refused(e) = gram_schmidt::modified_gram_schmidt(tangents, state.len(), norms) {
+        return moved(from, Outcome::Refused(e), a.time, a.steps);
     }
-    let d = state.len();
-    if let Outcome::Refused(e) = gram_schmidt::modified_gram_schmidt(tangents, d, norms) {
-        return Progress {
-            outcome: Outcome::Refused(e),
-            windows,
-            steps,
-            time: end,
-            faint,
-            sums,
-        };
-    }
+    let k = config.top_k;
     let e = k + k;
-    let counted = count_faint(faint, &norms[k..e]);
-    Progress {
-        outcome: Outcome::Accepted,
-        windows,
-        steps,
-        time: end,
-        faint: counted,
-        sums,
-    }
+    count_faint(q, &norms[k..e])
 }
 
 // The warm-up windows.
@@ -218,32 +224,29 @@ fn warm_up(
     state: &mut [f64],
     tangents: &mut [f64],
     norms: &mut [f64],
-    k: usize,
-    h: f64,
-    count: u64,
-    windows: u64,
+    config: BenettinConfig,
     from: Progress,
 ) -> Progress
-    requires { ⌜ Under.Fitting system (now matrix) h (now state) (now tangents) (now norms) k × Under.Room (windows * count) windows 0 from × (from .outcome ≡ Outcome.Accepted) ⌝ }
-    ensures { λ r. ⌜ (Under.status (r .outcome) (Under.run-state (dim system) k (now (state .exit)) (now (tangents .exit)) (now (norms .exit)) r)
-        ≡ Run.warm-up (Estimate.dynamics system (now (matrix .entry)) h count) count windows (Under.run-state (dim system) k (now (state .entry)) (now (tangents .entry)) (now (norms .entry)) from))
-        × Under.Within k (windows * count) windows 0 from r ⌝ }
+    requires { ⌜ Under.Fitting system (now matrix) (config .«step_size») (now state) (now tangents) (now norms) (config .«top_k»)
+        × Under.Room (config .«transient_windows» * config .«steps_per_window») (config .«transient_windows») 0 from × (from .outcome ≡ Outcome.Accepted) ⌝ }
+    ensures { λ r. ⌜ (Under.status (r .outcome) (Under.run-state (dim system) (config .«top_k») (now (state .exit)) (now (tangents .exit)) (now (norms .exit)) r)
+        ≡ Run.warm-up (Under.dynamics-of system (now (matrix .entry)) config) (config .«steps_per_window») (config .«transient_windows») (Under.run-state (dim system) (config .«top_k») (now (state .entry)) (now (tangents .entry)) (now (norms .entry)) from))
+        × Under.Within (config .«top_k») (config .«transient_windows» * config .«steps_per_window») (config .«transient_windows») 0 from r ⌝ }
 {
     let mut p = from;
     let mut w: u64 = 0;
-    while w < windows {
-        let q = window(system, matrix, state, tangents, norms, k, h, count, p);
-        let v = q.outcome;
-        if let Outcome::Refused(_e) = v {
-            return q;
-        }
-        p = q;
+    while w < config.transient_windows {
+        p = window(system, matrix, state, tangents, norms, config, p);
+        let v = p.outcome;
+        let Outcome::Accepted = v else {
+            return p;
+        };
         w += 1;
     }
     p
 }
 
-// One measured window, with its row.
+// One measured window: the sums, and its row.
 fn measured_window(
     system: System,
     matrix: &[f64],
@@ -251,39 +254,27 @@ fn measured_window(
     tangents: &mut [f64],
     norms: &mut [f64],
     row: &mut [f64],
-    k: usize,
-    h: f64,
-    count: u64,
+    config: BenettinConfig,
     from: Progress,
 ) -> Progress
-    requires { ⌜ Under.Fitting system (now matrix) h (now state) (now tangents) (now norms) k × Under.Room count 1 1 from × (length (now row) ≡ 1 + 2 * k) × (count < 2 ^ 32) ⌝ }
-    ensures { λ r. ⌜ (Under.recorded (now (row .exit)) (Under.status (r .outcome) (Under.run-state (dim system) k (now (state .exit)) (now (tangents .exit)) (now (norms .exit)) r))
-        ≡ Under.with-row-of (Estimate.dynamics system (now (matrix .entry)) h count) (now (row .entry))
-        (Run.window (Estimate.dynamics system (now (matrix .entry)) h count) count (Under.run-state (dim system) k (now (state .entry)) (now (tangents .entry)) (now (norms .entry)) from)))
-        × Under.Within k count 1 1 from r ⌝ }
+    requires { ⌜ Under.Fitting system (now matrix) (config .«step_size») (now state) (now tangents) (now norms) (config .«top_k») × Under.Room (config .«steps_per_window») 1 1 from
+        × (length (now row) ≡ 1 + 2 * config .«top_k») × (config .«steps_per_window» < 2 ^ 32) ⌝ }
+    ensures { λ r. ⌜ (Under.recorded (now (row .exit)) (Under.status (r .outcome) (Under.run-state (dim system) (config .«top_k») (now (state .exit)) (now (tangents .exit)) (now (norms .exit)) r))
+        ≡ Under.with-row-of (Under.dynamics-of system (now (matrix .entry)) config) (now (row .entry))
+        (Run.window (Under.dynamics-of system (now (matrix .entry)) config) (config .«steps_per_window») (Under.run-state (dim system) (config .«top_k») (now (state .entry)) (now (tangents .entry)) (now (norms .entry)) from)))
+        × Under.Within (config .«top_k») (config .«steps_per_window») 1 1 from r ⌝ }
 {
-    let q = window(system, matrix, state, tangents, norms, k, h, count, from);
+    let q = window(system, matrix, state, tangents, norms, config, from);
     let v = q.outcome;
-    if let Outcome::Refused(_e) = v {
+    let Outcome::Accepted = v else {
         return q;
-    }
-    let steps = q.steps;
-    let time = q.time;
-    let faint = q.faint;
-    let sums = q.sums;
-    let windows = q.windows + 1;
-    let added = add_logs(sums, &norms[..k]);
-    let duration = h * as_float(count);
-    let elapsed = duration * as_float(windows);
-    write_row(row, time, &norms[..k], added, duration, elapsed);
-    Progress {
-        outcome: Outcome::Accepted,
-        windows,
-        steps,
-        time,
-        faint,
-        sums: added,
-    }
+    };
+    let k = config.top_k;
+    let p = add_logs(q, &norms[..k]);
+    let length = duration(config);
+    let elapsed = length * as_float(p.windows);
+    write_row(row, &norms[..k], p, length, elapsed);
+    p
 }
 
 // The measured windows: each is lent its row of the rows slice.
@@ -294,41 +285,36 @@ fn measure(
     tangents: &mut [f64],
     norms: &mut [f64],
     rows: &mut [f64],
-    k: usize,
-    h: f64,
-    count: u64,
-    windows: u64,
+    config: BenettinConfig,
     from: Progress,
 ) -> Progress
-    requires { ⌜ Under.Fitting system (now matrix) h (now state) (now tangents) (now norms) k × Under.Room (windows * count) windows windows from × (from .outcome ≡ Outcome.Accepted)
-        × (windows * (1 + 2 * k) ≤ length (now rows)) × (count < 2 ^ 32) ⌝ }
-    ensures { λ r. ⌜ (Under.recorded (now (rows .exit)) (Under.status (r .outcome) (Under.run-state (dim system) k (now (state .exit)) (now (tangents .exit)) (now (norms .exit)) r))
-        ≡ Under.written (now (rows .entry)) 0 (Run.measured (Estimate.dynamics system (now (matrix .entry)) h count) count windows (Under.run-state (dim system) k (now (state .entry)) (now (tangents .entry)) (now (norms .entry)) from)))
-        × Under.Within k (windows * count) windows windows from r ⌝ }
+    requires { ⌜ Under.Fitting system (now matrix) (config .«step_size») (now state) (now tangents) (now norms) (config .«top_k»)
+        × Under.Room (config .windows * config .«steps_per_window») (config .windows) (config .windows) from × (from .outcome ≡ Outcome.Accepted)
+        × (config .windows * (1 + 2 * config .«top_k») ≤ length (now rows)) × (config .«steps_per_window» < 2 ^ 32) ⌝ }
+    ensures { λ r. ⌜ (Under.recorded (now (rows .exit)) (Under.status (r .outcome) (Under.run-state (dim system) (config .«top_k») (now (state .exit)) (now (tangents .exit)) (now (norms .exit)) r))
+        ≡ Under.written (now (rows .entry)) 0 (Run.measured (Under.dynamics-of system (now (matrix .entry)) config) (config .«steps_per_window») (config .windows) (Under.run-state (dim system) (config .«top_k») (now (state .entry)) (now (tangents .entry)) (now (norms .entry)) from)))
+        × Under.Within (config .«top_k») (config .windows * config .«steps_per_window») (config .windows) (config .windows) from r ⌝ }
 {
-    let width = 1 + 2 * k;
+    let width = 1 + 2 * config.top_k;
     let mut p = from;
     let mut w: u64 = 0;
     let mut a = 0;
-    while w < windows {
+    while w < config.windows {
         let e = a + width;
-        let q = measured_window(
+        p = measured_window(
             system,
             matrix,
             state,
             tangents,
             norms,
             &mut rows[a..e],
-            k,
-            h,
-            count,
+            config,
             p,
         );
-        let v = q.outcome;
-        if let Outcome::Refused(_e) = v {
-            return q;
-        }
-        p = q;
+        let v = p.outcome;
+        let Outcome::Accepted = v else {
+            return p;
+        };
         w += 1;
         a = e;
     }
@@ -357,36 +343,25 @@ fn prepare(
     state: &mut [f64],
     tangents: &mut [f64],
     norms: &mut [f64],
-    k: usize,
-    h: f64,
-    count: u64,
-    warm: u64,
-    seed: u64,
+    config: BenettinConfig,
 ) -> Progress
-    requires { ⌜ Under.Fitting system (now matrix) h (now state) (now tangents) (now norms) k × (count ≤ Estimate.limit) × (warm ≤ Estimate.limit) × (finite time ≡ true) ⌝ }
-    ensures { λ r. ⌜ (Under.status (r .outcome) (Under.run-state (dim system) k (now (state .exit)) (now (tangents .exit)) (now (norms .exit)) r)
-        ≡ Run.warmed-up (Estimate.dynamics system (now (matrix .entry)) h count) count warm (Start.drawn (dim system) k (now (state .entry)) time seed))
-        × Under.Within k (warm * count) warm 0 (Start.fresh Outcome.Accepted time) r ⌝ }
+    requires { ⌜ Under.Fitting system (now matrix) (config .«step_size») (now state) (now tangents) (now norms) (config .«top_k»)
+        × (config .«steps_per_window» ≤ Estimate.limit) × (config .«transient_windows» ≤ Estimate.limit) × (finite time ≡ true) ⌝ }
+    ensures { λ r. ⌜ (Under.status (r .outcome) (Under.run-state (dim system) (config .«top_k») (now (state .exit)) (now (tangents .exit)) (now (norms .exit)) r)
+        ≡ Run.warmed-up (Under.dynamics-of system (now (matrix .entry)) config) (config .«steps_per_window») (config .«transient_windows») (Start.drawn (dim system) (config .«top_k») (now (state .entry)) time (config .seed)))
+        × Under.Within (config .«top_k») (config .«transient_windows» * config .«steps_per_window») (config .«transient_windows») 0 (Start.fresh Outcome.Accepted time) r ⌝ }
 {
-    let d = state.len();
-    if let Outcome::Refused(e) = benettin::basis::initialize_basis(tangents, d, norms, seed) {
+    if let Outcome::Refused(e) = benettin::basis::initialize_basis(
+        tangents,
+        state.len(),
+        norms,
+        config.seed,
+    ) {
         return fresh(Outcome::Refused(e), time);
     }
-    let duration = h * as_float(count);
-    if floats::is_finite(duration) {
+    if floats::is_finite(duration(config)) {
         let from = fresh(Outcome::Accepted, time);
-        warm_up(
-            system,
-            matrix,
-            state,
-            tangents,
-            norms,
-            k,
-            h,
-            count,
-            warm,
-            from,
-        )
+        warm_up(system, matrix, state, tangents, norms, config, from)
     } else {
         fresh(Outcome::Refused(LyapunovError::InvalidWindowDuration), time)
     }
@@ -401,49 +376,21 @@ fn measured_run(
     tangents: &mut [f64],
     norms: &mut [f64],
     rows: &mut [f64],
-    k: usize,
-    h: f64,
-    count: u64,
-    warm: u64,
-    windows: u64,
-    seed: u64,
+    config: BenettinConfig,
 ) -> Progress
-    requires { ⌜ Under.Fitting system (now matrix) h (now state) (now tangents) (now norms) k × (count ≤ Estimate.limit) × (warm ≤ Estimate.limit) × (windows ≤ Estimate.limit)
-        × (windows * (1 + 2 * k) ≤ length (now rows)) × (finite time ≡ true) ⌝ }
-    ensures { λ r. ⌜ (Under.recorded (now (rows .exit)) (Under.status (r .outcome) (Under.run-state (dim system) k (now (state .exit)) (now (tangents .exit)) (now (norms .exit)) r))
-        ≡ Under.written (now (rows .entry)) 0 (Run.course (Estimate.dynamics system (now (matrix .entry)) h count) count warm count windows (Start.drawn (dim system) k (now (state .entry)) time seed)))
-        × (drop k (r .faint) ≡ drop k (replicate 16 0)) × (length (r .faint) ≡ 16) × (length (r .sums) ≡ 16) ⌝ }
+    requires { ⌜ Under.Fitting system (now matrix) (config .«step_size») (now state) (now tangents) (now norms) (config .«top_k»)
+        × (config .«steps_per_window» ≤ Estimate.limit) × (config .«transient_windows» ≤ Estimate.limit) × (config .windows ≤ Estimate.limit)
+        × (config .windows * (1 + 2 * config .«top_k») ≤ length (now rows)) × (finite time ≡ true) ⌝ }
+    ensures { λ r. ⌜ (Under.recorded (now (rows .exit)) (Under.status (r .outcome) (Under.run-state (dim system) (config .«top_k») (now (state .exit)) (now (tangents .exit)) (now (norms .exit)) r))
+        ≡ Under.written (now (rows .entry)) 0 (Start.course-of system (now (matrix .entry)) config (now (state .entry)) time))
+        × (drop (config .«top_k») (r .faint) ≡ drop (config .«top_k») (replicate 16 0)) × (length (r .faint) ≡ 16) × (length (r .sums) ≡ 16) ⌝ }
 {
-    let ready = prepare(
-        system,
-        matrix,
-        time,
-        state,
-        tangents,
-        norms,
-        k,
-        h,
-        count,
-        warm,
-        seed,
-    );
+    let ready = prepare(system, matrix, time, state, tangents, norms, config);
     let v = ready.outcome;
-    if let Outcome::Refused(_e) = v {
+    let Outcome::Accepted = v else {
         return ready;
-    }
-    measure(
-        system,
-        matrix,
-        state,
-        tangents,
-        norms,
-        rows,
-        k,
-        h,
-        count,
-        windows,
-        ready,
-    )
+    };
+    measure(system, matrix, state, tangents, norms, rows, config, ready)
 }
 
 fn copy_to(out: &mut [f64], from: &[f64])
@@ -473,35 +420,32 @@ fn refused(error: LyapunovError, windows: u64, steps: u64) -> SpectrumEstimate
 // The answer of a run, and what is left of it in two outputs.
 fn close(
     state: &[f64],
-    k: usize,
-    h: f64,
-    count: u64,
-    windows: u64,
+    config: BenettinConfig,
     exponents: &mut [f64],
     final_state: &mut [f64],
-    p: Progress,
+    done: Progress,
 ) -> SpectrumEstimate
-    requires { ⌜ (k ≤ 16) × (k ≤ length (now exponents)) × (length (now state) ≤ length (now «final_state»)) × (count ≤ Estimate.limit) × (windows ≤ Estimate.limit) × (length (p .sums) ≡ 16) ⌝ }
+    requires { ⌜ (config .«top_k» ≤ 16) × (config .«top_k» ≤ length (now exponents)) × (length (now state) ≤ length (now «final_state»))
+        × (config .«steps_per_window» ≤ Estimate.limit) × (config .windows ≤ Estimate.limit) × (length (done .sums) ≡ 16) ⌝ }
     ensures { λ r. ⌜ Start.closed r (now (exponents .exit)) (now («final_state» .exit))
-        ≡ Start.closing (p .outcome) (h ⊗ Run.as-float count) k windows (now (exponents .entry)) (now («final_state» .entry)) (now (state .entry)) p ⌝ }
+        ≡ Start.closing (done .outcome) (config .«step_size» ⊗ Run.as-float (config .«steps_per_window»)) (config .«top_k») (config .windows) (now (exponents .entry)) (now («final_state» .entry)) (now (state .entry)) done ⌝ }
 {
-    let v = p.outcome;
-    let steps = p.steps;
+    let v = done.outcome;
     if let Outcome::Refused(e) = v {
-        return refused(e, p.windows, steps);
+        return refused(e, done.windows, done.steps);
     }
-    let duration = h * as_float(count);
-    let measured = duration * as_float(windows);
-    let sums = p.sums;
+    let measured = duration(config) * as_float(config.windows);
+    let sums = done.sums;
+    let k = config.top_k;
     write_rates(&mut exponents[..k], &sums[..k], measured);
     let d = state.len();
     copy_to(&mut final_state[..d], state);
-    let faint = p.faint;
+    let faint = done.faint;
     SpectrumEstimate {
         outcome: Outcome::Accepted,
-        windows,
-        steps,
-        final_time: p.time,
+        windows: config.windows,
+        steps: done.steps,
+        final_time: done.time,
         measured_time: measured,
         faint,
     }
@@ -517,19 +461,13 @@ fn run(
     rows: &mut [f64],
     exponents: &mut [f64],
     final_state: &mut [f64],
-    k: usize,
-    h: f64,
-    count: u64,
-    warm: u64,
-    windows: u64,
-    seed: u64,
+    config: BenettinConfig,
 ) -> SpectrumEstimate
-    requires { ⌜ Tests.Ready system (now matrix) h time (now state) k count windows warm × (length (now tangents) ≡ k * length (now state))
-        × (windows * (1 + 2 * k) ≤ length (now rows)) × (k ≤ length (now exponents)) × (length (now state) ≤ length (now «final_state»)) ⌝ }
+    requires { ⌜ Tests.Ready system (now matrix) (config .«step_size») time (now state) (config .«top_k») (config .«steps_per_window») (config .windows) (config .«transient_windows») × (length (now tangents) ≡ config .«top_k» * length (now state))
+        × (config .windows * (1 + 2 * config .«top_k») ≤ length (now rows)) × (config .«top_k» ≤ length (now exponents)) × (length (now state) ≤ length (now «final_state»)) ⌝ }
     ensures { λ r. ⌜ Outputs.left r (now (rows .exit)) (now (exponents .exit)) (now («final_state» .exit))
-        ≡ Outputs.outputs k windows (now (rows .entry)) (now (exponents .entry)) (now («final_state» .entry))
-        (Start.answered (Estimate.dynamics system (now (matrix .entry)) h count) windows k
-        (Run.course (Estimate.dynamics system (now (matrix .entry)) h count) count warm count windows (Start.drawn (dim system) k (now (state .entry)) time seed))) ⌝ }
+        ≡ Outputs.outputs (config .«top_k») (config .windows) (now (rows .entry)) (now (exponents .entry)) (now («final_state» .entry))
+        (Start.answered (Under.dynamics-of system (now (matrix .entry)) config) (config .windows) (config .«top_k») (Start.course-of system (now (matrix .entry)) config (now (state .entry)) time)) ⌝ }
 {
     let mut norms = [0.0; 32];
     let done = measured_run(
@@ -540,12 +478,7 @@ fn run(
         tangents,
         &mut norms,
         rows,
-        k,
-        h,
-        count,
-        warm,
-        windows,
-        seed,
+        config,
     );
-    close(state, k, h, count, windows, exponents, final_state, done)
+    close(state, config, exponents, final_state, done)
 }

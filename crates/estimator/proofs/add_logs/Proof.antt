@@ -2,24 +2,24 @@
 use borrow.Author.Needs.{needs}
 use native.Mathlib.Omega.{arith}
 use Prim.Native.Nat.{_-_, _≤_}
-use mathlib.Core.Path.{_≡_, refl, sym, _∙_}
-use mathlib.Core.List.{_++_}
+use mathlib.Core.Path.{_≡_, refl, sym, ap, _∙_}
+use mathlib.Core.List.{List, _++_}
 use lib.ListN.{length, take, drop, length-set}
-use lib.Ieee.{nan}
+use lib.Ieee.{Float, nan}
+use Rattle.floats.specs.Arithmetic.{_⊕_}
+use Rattle.estimator.specs.Progress.{updated, with-sums}
 use Rattle.estimator.proofs.Lists.{updated-next, updated-end}
 use Rattle.estimator.proofs.add_logs.Statement.{statement}
 use Rattle.estimator.proofs.add_logs.Tie as tie
-use Rattle.floats.specs.Arithmetic.{_⊕_}
-use Rattle.estimator.specs.Progress.{updated}
 
 abbrev Inv-loop : tie.InvT-loop
-Inv-loop logs out₀ i₀ out i = (i ≤ length logs) × (length out ≡ 16) × (updated (_⊕_) out₀ logs ≡ take i out ++ updated (_⊕_) (drop i out) (drop i logs))
+Inv-loop from logs out₀ i₀ out i = (i ≤ length logs) × (length out ≡ 16) × (updated (_⊕_) out₀ logs ≡ take i out ++ updated (_⊕_) (drop i out) (drop i logs))
 
 abbrev μ-loop : tie.MeasureT-loop
-μ-loop logs out₀ i₀ out i = length logs - i
+μ-loop from logs out₀ i₀ out i = length logs - i
 
 loop-holds : tie.Need-loop-holds Inv-loop μ-loop
-loop-holds c = (omega arith, c .good .0 .1 .0 .1, refl)
+loop-holds c = (omega arith, c .before .pre .2, refl)
 
 mul-out : tie.Need-mul-out Inv-loop μ-loop
 mul-out c = search needs
@@ -48,12 +48,15 @@ loop-less c = search needs
 loop-again : tie.Need-loop-again Inv-loop μ-loop
 loop-again c =
     let l = c .before .before .loop in
-    (omega arith, length-set (l .out) (l .i) _ ∙ l .inv .1, l .inv .2 ∙ updated-next (_⊕_) (l .out) (c .before .before .before .args .logs .now) (l .i) nan nan (omega arith) (omega arith))
+    (omega arith, length-set (l .out) (l .i) _ ∙ l .inv .1, l .inv .2 ∙ updated-next (_⊕_) (l .out) (c .before .before .before .before .args .logs .now) (l .i) nan nan (omega arith) (omega arith))
+
+add-p : tie.Need-add-p Inv-loop μ-loop
+add-p c = search needs
 
 returns : tie.Need-returns Inv-loop μ-loop
 returns c =
-    let l = c .before .loop in
-    sym (l .inv .2 ∙ updated-end (_⊕_) (l .out) (c .before .before .args .logs .now) (l .i) (omega arith))
+    let l = c .before .before .loop in
+    ap (with-sums (c .before .before .before .before .args .from)) (sym (l .inv .2 ∙ updated-end (_⊕_) (l .out) (c .before .before .before .before .args .logs .now) (l .i) (omega arith)))
 
 pub add-logs-spec : {M : Type 1} → statement M
 add-logs-spec =
@@ -71,4 +74,5 @@ add-logs-spec =
     add-i
     loop-less
     loop-again
+    add-p
     returns)

@@ -1,4 +1,5 @@
 -- `estimator::close` meets its contract.
+use Prim.Native.Nat.{_≤_}
 use borrow.Author.Needs.{needs}
 use native.Mathlib.Omega.{arith}
 use mathlib.Core.Path.{sym, _∙_}
@@ -7,6 +8,9 @@ use lib.Seq.{length-take-le}
 use Rattle.estimator.proofs.Closing.{close-stop, close-done}
 use Rattle.estimator.proofs.close.Statement.{statement}
 use Rattle.estimator.proofs.close.Tie as tie
+
+sums-fit : (c : tie.Start) → c .args .config .«top_k» ≤ length (c .args .done .sums)
+sums-fit c = omega (arith, c .pre .0, c .pre .5)
 
 enum-known-v : tie.Need-enum-known-v
 enum-known-v c = search needs
@@ -17,40 +21,40 @@ refused-requires c κs = search needs
 returns : tie.Need-returns
 returns c =
     let a = c .before .before .before .before .before .before .before .args in
-    close-stop _ (a .k) (a .windows) (a .exponents .now) (a .final-state .now) (a .state .now) (a .p) _ (c .refused .result) (c .before .before .v .given .1) (c .refused .ensures)
+    close-stop _ (a .config .«top_k») (a .config .windows) (a .exponents .now) (a .final-state .now) (a .state .now) (a .done) _ (c .refused .result) (c .before .before .v .given .1) (c .refused .ensures)
 
 enum-told : tie.Need-enum-told
 enum-told c = search needs
 
+duration-requires : tie.Need-duration-requires
+duration-requires c κs = search needs
+
 as-float-requires : tie.Need-as-float-requires
 as-float-requires c κs = search needs
-
-as-float-requires-2 : tie.Need-as-float-requires-2
-as-float-requires-2 c κs = search needs
 
 slice-relend-prefix-write-rates : tie.Need-slice-relend-prefix-write-rates
 slice-relend-prefix-write-rates c = search needs
 
 slice-aggregate-write-rates : tie.Need-slice-aggregate-write-rates
-slice-aggregate-write-rates c = let a = c .before .before .before .before .before .before .before .before .before .args in sym (length-take-le (a .k) (a .exponents .now) (c .before .before .before .before .before .before .before .before .before .pre .1))
+slice-aggregate-write-rates c = sym (length-take-le _ _ (c .before .before .before .before .before .before .before .before .before .pre .1))
 
 array-share-prefix-sums : tie.Need-array-share-prefix-sums
 array-share-prefix-sums c = search needs
 
 slice-aggregate-write-rates-2 : tie.Need-slice-aggregate-write-rates-2
-slice-aggregate-write-rates-2 c = let a = c .before .before .before .before .before .before .before .before .before .before .args in sym (length-take-le (a .k) (a .p .sums) (omega (arith, c .before .before .before .before .before .before .before .before .before .before .pre .0, c .before .before .before .before .before .before .before .before .before .before .pre .5)))
+slice-aggregate-write-rates-2 c = sym (length-take-le _ _ (sums-fit (c .before .before .before .before .before .before .before .before .before .before)))
 
 write-rates-requires : tie.Need-write-rates-requires
-write-rates-requires c κs = let a = c .before .before .before .before .before .before .before .before .before .before .args in length-take-le (a .k) (a .exponents .now) (c .before .before .before .before .before .before .before .before .before .before .pre .1) ∙ sym (length-take-le (a .k) (a .p .sums) (omega (arith, c .before .before .before .before .before .before .before .before .before .before .pre .0, c .before .before .before .before .before .before .before .before .before .before .pre .5)))
+write-rates-requires c κs = length-take-le _ _ (c .before .before .before .before .before .before .before .before .before .before .pre .1) ∙ sym (length-take-le _ _ (sums-fit (c .before .before .before .before .before .before .before .before .before .before)))
 
 slice-relend-prefix-copy-to : tie.Need-slice-relend-prefix-copy-to
 slice-relend-prefix-copy-to c = search needs
 
 slice-aggregate-copy-to : tie.Need-slice-aggregate-copy-to
-slice-aggregate-copy-to c = let a = c .before .before .before .before .before .before .before .before .before .before .before .before .before .before .args in sym (length-take-le (length (a .state .now)) (a .final-state .now) (c .before .before .before .before .before .before .before .before .before .before .before .before .before .before .pre .2))
+slice-aggregate-copy-to c = sym (length-take-le _ _ (c .before .before .before .before .before .before .before .before .before .before .before .before .before .before .pre .2))
 
 copy-to-requires : tie.Need-copy-to-requires
-copy-to-requires c κs = let a = c .before .before .before .before .before .before .before .before .before .before .before .before .before .before .args in length-take-le (length (a .state .now)) (a .final-state .now) (c .before .before .before .before .before .before .before .before .before .before .before .before .before .before .pre .2)
+copy-to-requires c κs = length-take-le _ _ (c .before .before .before .before .before .before .before .before .before .before .before .before .before .before .pre .2)
 
 same-length : tie.Need-same-length
 same-length c = search needs
@@ -62,10 +66,12 @@ returns-2 : tie.Need-returns-2
 returns-2 c =
     let a = c .before .before .before .before .before .before .before .before .before .before .before .before .before .before .before .before .before .before .args in
     let p = c .before .before .before .before .before .before .before .before .before .before .before .before .before .before .before .before .before .before .pre in
-    let u = c .before .before .before .before .before .before .before .before .before .before .before .before .as-float in
-    let w = c .before .before .before .before .before .before .before .before .before .before .before .as-float2 in
-    close-done (a .h) (a .count) (a .k) (a .windows) (a .exponents .now) (a .final-state .now) (a .state .now) (a .p) (u .result) (w .result) (c .before .before .before .before .before .before .before .write-rates .last .0) (c .before .before .before .copy-to .last .0)
-    (c .before .before .before .before .before .before .before .before .before .before .before .before .before .enum-told .given .1) (u .ensures) (w .ensures) (p .1) (p .2) (p .5) (p .0) (c .before .before .before .before .before .before .before .write-rates .ensures) (c .before .before .before .copy-to .ensures)
+    let u = c .before .before .before .before .before .before .before .before .before .before .before .before .duration in
+    let w = c .before .before .before .before .before .before .before .before .before .before .before .as-float in
+    let r = c .before .before .before .before .before .before .before .write-rates in
+    let y = c .before .before .before .copy-to in
+    close-done _ (a .config .«top_k») (a .config .windows) (a .exponents .now) (a .final-state .now) (a .state .now) (a .done) (u .result) (w .result) (r .last .0) (y .last .0)
+    (c .before .before .before .before .before .before .before .before .before .before .before .before .before .enum-told .given .1) (u .ensures) (w .ensures) (p .1) (p .2) (p .5) (p .0) (r .ensures) (y .ensures)
 
 pub close-spec : {M : Type 1} → statement M
 close-spec =
@@ -75,8 +81,8 @@ close-spec =
     refused-requires
     returns
     enum-told
+    duration-requires
     as-float-requires
-    as-float-requires-2
     slice-relend-prefix-write-rates
     slice-aggregate-write-rates
     array-share-prefix-sums

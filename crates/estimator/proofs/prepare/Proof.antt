@@ -6,10 +6,6 @@ use Rattle.estimator.proofs.Draws.{ready-14, ready-15, ready-warm, fres
 use Rattle.estimator.proofs.prepare.Statement.{statement}
 use Rattle.estimator.proofs.prepare.Tie as tie
 
--- from the place where the basis is drawn
-abbrev start : tie.After-initialize-basis → tie.Start
-start c = c .before .before .before .before .before .before .before
-
 initialize-basis-requires : tie.Need-initialize-basis-requires
 initialize-basis-requires c κs = search needs
 
@@ -27,21 +23,20 @@ same-length-2 c = search needs
 
 returns : tie.Need-returns
 returns c =
-    let b = c .before .before .before .before .before .before .before .before in
-    let a = start b .args in
-    let p = start b .pre in
-    let g = b .initialize-basis in
+    let a = c .before .before .before .before .before .before .before .before .before .before .before .before .before .before .before .args in
+    let p = c .before .before .before .before .before .before .before .before .before .before .before .before .before .before .before .pre in
+    let g = c .before .before .before .before .before .before .before .before .initialize-basis in
     let f = c .fresh in (
-      fresh-stop _ _ _ _ _ (a .time) (f .result) _ (a .state .now) (a .seed) _ (f .ensures)
-          (ready-14 _ _ _ _ _ _ _ _ _ (a .time) (a .seed) (p .0) (g .result) (g .last .0) (g .last .1 .1 .0) (g .ensures) _ (c .before .before .e .given .1)),
-      fresh-within (a .k) (a .warm) (a .count) _ (a .time) (f .result) (p .3) (f .ensures),
+      fresh-stop _ _ _ _ _ (a .time) (f .result) _ (a .state .now) (a .config .seed) _ (f .ensures)
+          (ready-14 _ _ _ _ _ _ _ _ _ (a .time) (a .config .seed) (p .0) (g .result) (g .last .0) (g .last .1 .1 .0) (g .ensures) _ (c .before .before .e .given .1)),
+      fresh-within (a .config .«top_k») (a .config .«transient_windows») (a .config .«steps_per_window») _ (a .time) (f .result) (p .3) (f .ensures),
     )
 
 enum-told : tie.Need-enum-told
 enum-told c = search needs
 
-as-float-requires : tie.Need-as-float-requires
-as-float-requires c κs = search needs
+duration-requires : tie.Need-duration-requires
+duration-requires c κs = search needs
 
 is-finite-requires : tie.Need-is-finite-requires
 is-finite-requires c κs = search needs
@@ -51,12 +46,11 @@ fresh-requires-2 c κs = search needs
 
 warm-up-requires : tie.Need-warm-up-requires
 warm-up-requires c κs =
-    let b = c .before .before .before .before .before .before .before .before .before .before .before .before .before in
-    let a = start b .args in
-    let p = start b .pre in
-    let g = b .initialize-basis in
+    let a = c .before .before .before .before .before .before .before .before .before .before .before .before .before .before .before .before .before .before .before .before .args in
+    let p = c .before .before .before .before .before .before .before .before .before .before .before .before .before .before .before .before .before .before .before .before .pre in
+    let g = c .before .before .before .before .before .before .before .before .before .before .before .before .before .initialize-basis in
     let f = c .before .before .before .fresh2 in
-    (fitting-kept _ _ _ (p .0) refl (g .kept .0) (g .kept .1 .1 .0), from-room (a .warm) (a .count) (a .time) (f .result) (p .3) (f .ensures) (p .2) (p .1), rw (f .ensures))
+    (fitting-kept _ _ _ (p .0) refl (g .kept .0) (g .kept .1 .1 .0), from-room (a .config .«transient_windows») (a .config .«steps_per_window») (a .time) (f .result) (p .3) (f .ensures) (p .2) (p .1), rw (f .ensures))
 
 fresh-requires-3 : tie.Need-fresh-requires-3
 fresh-requires-3 c κs = search needs
@@ -72,17 +66,15 @@ same-length-5 c = search needs
 
 returns-2 : tie.Need-returns-2
 returns-2 c =
-    let w = c .before .before .before .before .before .before in
-    let t = w .before .before .before .before .before in
-    let b = t .before .before .before .before .before .before .before .before .before in
-    let a = start b .args in
-    let p = start b .pre in
-    let g = b .initialize-basis in
-    let f = w .before .before .before .before .fresh2 in
-    let u = t .before .before .as-float in (
-      ready-warm _ _ _ _ _ _ _ _ _ (a .time) (a .seed) (p .0) (g .result) (g .last .0) (g .last .1 .1 .0) (g .ensures)
-          (u .result) (f .result) _ (t .before .before .before .enum-told .given .1) (u .ensures) (sym (t .before .is-finite .ensures) ∙ t .if1 .taken) (f .ensures) (w .warm-up .ensures .0),
-      from-within (a .k) (a .warm) (a .count) (a .time) (f .result) (w .warm-up .result) (f .ensures) (w .warm-up .ensures .1),
+    let a = c .before .before .before .before .before .before .before .before .before .before .before .before .before .before .before .before .before .before .before .before .before .before .before .before .before .before .before .args in
+    let p = c .before .before .before .before .before .before .before .before .before .before .before .before .before .before .before .before .before .before .before .before .before .before .before .before .before .before .before .pre in
+    let g = c .before .before .before .before .before .before .before .before .before .before .before .before .before .before .before .before .before .before .before .before .initialize-basis in
+    let u = c .before .before .before .before .before .before .before .before .before .before .before .before .before .duration in
+    let f = c .before .before .before .before .before .before .before .before .before .before .fresh2 in
+    let w = c .before .before .before .before .before .before .warm-up in (
+      ready-warm _ _ _ _ _ _ _ _ _ (a .time) (a .config .seed) (p .0) (g .result) (g .last .0) (g .last .1 .1 .0) (g .ensures)
+          (u .result) (f .result) _ (c .before .before .before .before .before .before .before .before .before .before .before .before .before .before .enum-told .given .1) (u .ensures) (sym (c .before .before .before .before .before .before .before .before .before .before .before .before .is-finite .ensures) ∙ c .before .before .before .before .before .before .before .before .before .before .before .if1 .taken) (f .ensures) (w .ensures .0),
+      from-within (a .config .«top_k») (a .config .«transient_windows») (a .config .«steps_per_window») (a .time) (f .result) (w .result) (f .ensures) (w .ensures .1),
     )
 
 same-length-6 : tie.Need-same-length-6
@@ -93,17 +85,15 @@ same-length-7 c = search needs
 
 returns-3 : tie.Need-returns-3
 returns-3 c =
-    let t = c .before in
-    let b = t .before .before .before .before .before .before .before .before .before in
-    let a = start b .args in
-    let p = start b .pre in
-    let g = b .initialize-basis in
-    let f = c .fresh3 in
-    let u = t .before .before .as-float in (
-      fresh-stop _ _ _ _ _ (a .time) (f .result) _ (a .state .now) (a .seed) _ (f .ensures)
-          (ready-15 _ _ _ _ _ _ _ _ _ (a .time) (a .seed) (p .0) (g .result) (g .last .0) (g .last .1 .1 .0) (g .ensures)
-          (u .result) (t .before .before .before .enum-told .given .1) (u .ensures) (sym (t .before .is-finite .ensures) ∙ t .if1 .left)),
-      fresh-within (a .k) (a .warm) (a .count) _ (a .time) (f .result) (p .3) (f .ensures),
+    let a = c .before .before .before .before .before .before .before .before .before .before .before .before .before .before .before .before .before .args in
+    let p = c .before .before .before .before .before .before .before .before .before .before .before .before .before .before .before .before .before .pre in
+    let g = c .before .before .before .before .before .before .before .before .before .before .initialize-basis in
+    let u = c .before .before .before .duration in
+    let f = c .fresh3 in (
+      fresh-stop _ _ _ _ _ (a .time) (f .result) _ (a .state .now) (a .config .seed) _ (f .ensures)
+          (ready-15 _ _ _ _ _ _ _ _ _ (a .time) (a .config .seed) (p .0) (g .result) (g .last .0) (g .last .1 .1 .0) (g .ensures)
+          (u .result) (c .before .before .before .before .enum-told .given .1) (u .ensures) (sym (c .before .before .is-finite .ensures) ∙ c .before .if1 .left)),
+      fresh-within (a .config .«top_k») (a .config .«transient_windows») (a .config .«steps_per_window») _ (a .time) (f .result) (p .3) (f .ensures),
     )
 
 pub prepare-spec : {M : Type 1} → statement M
@@ -117,7 +107,7 @@ prepare-spec =
     same-length-2
     returns
     enum-told
-    as-float-requires
+    duration-requires
     is-finite-requires
     fresh-requires-2
     warm-up-requires

@@ -2,6 +2,7 @@
 use borrow.Author.Needs.{needs}
 use native.Mathlib.Omega.{arith}
 use mathlib.Core.Path.{refl}
+use Rattle.estimator.specs.Start.{course-of}
 use Rattle.estimator.proofs.Answers.{ended-is}
 use Rattle.estimator.proofs.run.Statement.{statement}
 use Rattle.estimator.proofs.run.Tie as tie
@@ -36,11 +37,13 @@ same-length-5 c = search needs
 returns : tie.Need-returns
 returns c =
     let a = c .before .before .before .before .before .before .before .before .before .before .before .before .before .before .before .before .before .before .before .before .before .before .before .before .before .before .args in
+    let g = a .config in
     let s = c .before .before .before .before .before .before .before .before .before .before .before .before .before .before .before .before .before .before .before .before .before .before .before .before .before .before .pre .0 in
     let o = c .before .before .before .before .before .before .before .before .before .before .before .before .before .before .before .measured-run in
     let e = c .before .before .before .before .close in
-    ended-is (a .system) (a .matrix .now) (a .h) (a .count) (a .k) (a .windows) (o .last .1 .1 .1 .0) (o .last .1 .1 .1 .1 .0) (o .last .1 .1 .1 .1 .1 .0) (o .result) (a .rows .now) (a .exponents .now) (a .final-state .now) _
-    (o .last .1 .1 .1 .1 .1 .1 .0) (e .last .1 .1 .1 .1 .1 .0) (e .last .1 .1 .1 .1 .1 .1 .0) (e .result) (o .ensures .1) (omega (arith, s .small, s .directions)) (o .ensures .0) (e .ensures)
+    ended-is (a .system) (a .matrix .now) (g .«step_size») (g .«steps_per_window») (g .«top_k») (g .windows) (o .last .1 .1 .1 .0) (o .last .1 .1 .1 .1 .0) (o .last .1 .1 .1 .1 .1 .0) (o .result) (a .rows .now) (a .exponents .now) (a .final-state .now)
+    (course-of (a .system) (a .matrix .now) g (a .state .now) (a .time))
+    (o .last .1 .1 .1 .1 .1 .1 .0) (e .last .1 .1 .0) (e .last .1 .1 .1 .0) (e .result) (o .ensures .1) (omega (arith, s .small, s .directions)) (o .ensures .0) (e .ensures)
 
 pub run-spec : {M : Type 1} → statement M
 run-spec =

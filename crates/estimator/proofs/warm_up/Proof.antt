@@ -4,38 +4,55 @@ use native.Mathlib.Omega.{arith}
 use Prim.Native.Nat.{_+_, _-_, _*_, _≤_}
 use mathlib.Core.Path.{_≡_, refl, sym, _∙_}
 use lib.ListN.{length}
+use Rattle.error.specs.declared.Outcome.the-variants.{Accepted}
+use Rattle.system.specs.System.{dim}
+use Rattle.benettin.specs.Run as Run
+use Rattle.benettin.specs.Run.{Dynamics, RunState}
+use Rattle.estimator.specs.Progress.{dynamics-of, run-state, Within}
 use Rattle.estimator.proofs.Loops.{fitting-kept, within-start, within-next, within-up, room-next, warming, warm-start, warm-next, warm-stop, warm-end}
 use Rattle.estimator.proofs.warm_up.Statement.{statement}
 use Rattle.estimator.proofs.warm_up.Tie as tie
-use Rattle.system.specs.System.{dim}
-use Rattle.error.specs.declared.Outcome.the-variants.{Accepted}
-use Rattle.benettin.specs.Run as Run
-use Rattle.benettin.specs.Estimate.{dynamics}
-use Rattle.estimator.specs.Progress.{run-state, Within}
 
 abbrev Inv-loop : tie.InvT-loop
-Inv-loop system matrix state₀ tangents₀ norms₀ k h count windows p₀ w₀ state tangents norms p w =
-    (w ≤ windows) × (length state ≡ length state₀) × (length tangents ≡ length tangents₀) × (length norms ≡ length norms₀) × (p .outcome ≡ Accepted) × Within k (w * count) w 0 p₀ p
-    × (warming (dynamics system matrix h count) count windows w (run-state (dim system) k state tangents norms p) ≡ Run.warm-up (dynamics system matrix h count) count windows (run-state (dim system) k state₀ tangents₀ norms₀ p₀))
+Inv-loop system matrix state₀ tangents₀ norms₀ config p₀ w₀ state tangents norms p w =
+    (w ≤ config .«transient_windows») × (length state ≡ length state₀) × (length tangents ≡ length tangents₀) × (length norms ≡ length norms₀) × (p .outcome ≡ Accepted)
+    × Within (config .«top_k») (w * config .«steps_per_window») w 0 p₀ p
+    × (warming (dynamics-of system matrix config) (config .«steps_per_window») (config .«transient_windows») w (run-state (dim system) (config .«top_k») state tangents norms p)
+    ≡ Run.warm-up (dynamics-of system matrix config) (config .«steps_per_window») (config .«transient_windows») (run-state (dim system) (config .«top_k») state₀ tangents₀ norms₀ p₀))
 
 abbrev μ-loop : tie.MeasureT-loop
-μ-loop system matrix state₀ tangents₀ norms₀ k h count windows p₀ w₀ state tangents norms p w = windows - w
+μ-loop system matrix state₀ tangents₀ norms₀ config p₀ w₀ state tangents norms p w = config .«transient_windows» - w
+
+abbrev M : tie.Start Inv-loop μ-loop → Dynamics
+M c = dynamics-of (c .args .system) (c .args .matrix .now) (c .args .config)
+
+-- where a turn starts, and where its window leads
+abbrev here : tie.At-loop Inv-loop μ-loop → RunState
+here c = let a = c .before .before .before .before .before .args in run-state (dim (a .system)) (a .config .«top_k») (c .loop .state) (c .loop .tangents) (c .loop .norms) (c .loop .p)
+
+abbrev there : tie.After-window Inv-loop μ-loop → RunState
+there c = let a = c .before .before .before .before .before .before .before .before .before .before .before .args in let o = c .window in run-state (dim (a .system)) (a .config .«top_k») (o .last .1 .1 .0) (o .last .1 .1 .1 .0) (o .last .1 .1 .1 .1 .0) (o .result)
 
 loop-holds : tie.Need-loop-holds Inv-loop μ-loop
 loop-holds c =
     let a = c .before .before .before .before .args in
-    (omega arith, refl, refl, refl, c .before .before .before .before .pre .2, within-start (a .k) (a .count) (a .from) (c .before .before .before .before .pre .1 .clock), warm-start (dynamics (a .system) (a .matrix .now) (a .h) (a .count)) (a .count) (a .windows) 0 _)
+    let p = c .before .before .before .before .pre in
+    (omega arith, refl, refl, refl, p .2, within-start (a .config .«top_k») (a .config .«steps_per_window») (a .from) (p .1 .clock), warm-start (M (c .before .before .before .before)) (a .config .«steps_per_window») (a .config .«transient_windows») 0 _)
 
 window-requires : tie.Need-window-requires Inv-loop μ-loop
 window-requires c κs =
-    let a = c .before .before .before .before .before .before .before .before .before .args in
-    let l = c .before .before .before .before .loop in (
-      fitting-kept _ _ _ (c .before .before .before .before .before .before .before .before .before .pre .0) (l .inv .1) (l .inv .2) (l .inv .3),
-      room-next (a .k) (l .w) (a .count) 0 0 (a .windows) 0 (a .from) (l .p) (c .before .before .before .before .before .before .before .before .before .pre .1) (l .inv .5) (c .before .before .before .loop-test .taken) (omega arith),
+    let a = c .before .before .before .before .before .before .before .before .before .before .args in
+    let p = c .before .before .before .before .before .before .before .before .before .before .pre in
+    let l = c .before .before .before .before .before .loop in (
+      fitting-kept _ _ _ (p .0) (l .inv .1) (l .inv .2) (l .inv .3),
+      room-next (a .config .«top_k») (l .w) (a .config .«steps_per_window») 0 0 (a .config .«transient_windows») 0 (a .from) (l .p) (p .1) (l .inv .5) (c .before .before .before .if1 .taken) (omega arith),
     )
 
-enum-known-v : tie.Need-enum-known-v Inv-loop μ-loop
-enum-known-v c = search needs
+enum-told : tie.Need-enum-told Inv-loop μ-loop
+enum-told c = search needs
+
+enum-told-2 : tie.Need-enum-told-2 Inv-loop μ-loop
+enum-told-2 c = search needs
 
 same-length : tie.Need-same-length Inv-loop μ-loop
 same-length c = search needs
@@ -48,15 +65,13 @@ same-length-3 c = search needs
 
 returns : tie.Need-returns Inv-loop μ-loop
 returns c =
-    let a = c .before .before .before .before .before .before .before .before .before .before .before .before .before .before .before .before .before .before .before .args in
+    let g = c .before .before .before .before .before .before .before .before .before .before .before .before .before .before .before .before .before .before .before .args .config in
+    let f = c .before .before .before .before .before .before .before .before .before .before .before .before .before .before .before .before .before .before .before .args .from in
     let l = c .before .before .before .before .before .before .before .before .before .before .before .before .before .before .loop in
-    let o = c .before .before .before .before .before .before .before .before .before .window in (
-      sym (warm-stop (dynamics (a .system) (a .matrix .now) (a .h) (a .count)) (a .count) (a .windows) (l .w) _ _ (o .result .outcome) _ (c .before .before .before .before .before .before .before .before .before .before .before .before .before .loop-test .taken) (o .ensures .0) (c .before .v .given .1)) ∙ l .inv .6,
-      within-up (a .k) (l .w + 1) (a .count) 0 (a .windows) 0 (a .from) (o .result) (omega arith) (omega arith) (within-next (a .k) (l .w) (a .count) 0 0 (a .from) (l .p) (o .result) (l .inv .5) (o .ensures .1)),
+    let o = c .before .before .before .before .before .before .before .before .window in (
+      sym (warm-stop (M (c .before .before .before .before .before .before .before .before .before .before .before .before .before .before .before .before .before .before .before)) (g .«steps_per_window») (g .«transient_windows») (l .w) (here (c .before .before .before .before .before .before .before .before .before .before .before .before .before .before)) (there (c .before .before .before .before .before .before .before .before)) (o .result .outcome) _ (c .before .before .before .before .before .before .before .before .before .before .before .before .if1 .taken) (o .ensures .0) (c .enum-told2 .given .1)) ∙ l .inv .6,
+      within-up (g .«top_k») (l .w + 1) (g .«steps_per_window») 0 (g .«transient_windows») 0 f (o .result) (omega arith) (omega arith) (within-next (g .«top_k») (l .w) (g .«steps_per_window») 0 0 f (l .p) (o .result) (l .inv .5) (o .ensures .1)),
     )
-
-enum-told : tie.Need-enum-told Inv-loop μ-loop
-enum-told c = search needs
 
 add-w : tie.Need-add-w Inv-loop μ-loop
 add-w c = search needs
@@ -66,16 +81,17 @@ loop-less c = search needs
 
 loop-again : tie.Need-loop-again Inv-loop μ-loop
 loop-again c =
-    let a = c .before .before .before .before .before .before .before .before .before .before .before .before .before .before .before .before .before .before .args in
-    let l = c .before .before .before .before .before .before .before .before .before .before .before .before .before .loop in
+    let g = c .before .before .before .before .before .before .before .before .before .before .before .before .before .before .before .before .before .before .before .args .config in
+    let f = c .before .before .before .before .before .before .before .before .before .before .before .before .before .before .before .before .before .before .before .args .from in
+    let l = c .before .before .before .before .before .before .before .before .before .before .before .before .before .before .loop in
     let o = c .before .before .before .before .before .before .before .before .window in (
       omega arith,
       o .kept .1 .1 .0 ∙ l .inv .1,
       o .kept .1 .1 .1 .0 ∙ l .inv .2,
       o .kept .1 .1 .1 .1 .0 ∙ l .inv .3,
       c .enum-told .given .1,
-      within-next (a .k) (l .w) (a .count) 0 0 (a .from) (l .p) (o .result) (l .inv .5) (o .ensures .1),
-      sym (warm-next (dynamics (a .system) (a .matrix .now) (a .h) (a .count)) (a .count) (a .windows) (l .w) _ _ (o .result .outcome) (c .before .before .before .before .before .before .before .before .before .before .before .before .loop-test .taken) (o .ensures .0) (c .enum-told .given .1)) ∙ l .inv .6,
+      within-next (g .«top_k») (l .w) (g .«steps_per_window») 0 0 f (l .p) (o .result) (l .inv .5) (o .ensures .1),
+      sym (warm-next (M (c .before .before .before .before .before .before .before .before .before .before .before .before .before .before .before .before .before .before .before)) (g .«steps_per_window») (g .«transient_windows») (l .w) (here (c .before .before .before .before .before .before .before .before .before .before .before .before .before .before)) (there (c .before .before .before .before .before .before .before .before)) (o .result .outcome) (c .before .before .before .before .before .before .before .before .before .before .before .before .if1 .taken) (o .ensures .0) (c .enum-told .given .1)) ∙ l .inv .6,
     )
 
 same-length-4 : tie.Need-same-length-4 Inv-loop μ-loop
@@ -89,10 +105,11 @@ same-length-6 c = search needs
 
 returns-2 : tie.Need-returns-2 Inv-loop μ-loop
 returns-2 c =
-    let a = c .before .before .before .before .before .before .args in
-    let l = c .before .loop in (
-      sym (warm-end (dynamics (a .system) (a .matrix .now) (a .h) (a .count)) (a .count) (a .windows) (l .w) _ (l .p .outcome) (c .loop-test .left) (l .inv .4)) ∙ l .inv .6,
-      within-up (a .k) (l .w) (a .count) 0 (a .windows) 0 (a .from) (l .p) (l .inv .0) (omega arith) (l .inv .5),
+    let g = c .before .before .before .before .before .before .before .args .config in
+    let f = c .before .before .before .before .before .before .before .args .from in
+    let l = c .before .before .loop in (
+      sym (warm-end (M (c .before .before .before .before .before .before .before)) (g .«steps_per_window») (g .«transient_windows») (l .w) (here (c .before .before)) (l .p .outcome) (c .if1 .left) (l .inv .4)) ∙ l .inv .6,
+      within-up (g .«top_k») (l .w) (g .«steps_per_window») 0 (g .«transient_windows») 0 f (l .p) (l .inv .0) (omega arith) (l .inv .5),
     )
 
 pub warm-up-spec : {M : Type 1} → statement M
@@ -103,12 +120,12 @@ warm-up-spec =
     μ-loop
     loop-holds
     window-requires
-    enum-known-v
+    enum-told
+    enum-told-2
     same-length
     same-length-2
     same-length-3
     returns
-    enum-told
     add-w
     loop-less
     loop-again

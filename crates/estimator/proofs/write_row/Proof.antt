@@ -1,4 +1,5 @@
 -- `estimator::write_row` meets its contract.
+use Prim.Native.Nat.{ℕ, _≤_}
 use borrow.Author.Needs.{needs}
 use native.Mathlib.Omega.{arith}
 use mathlib.Core.Path.{_≡_, sym, ap, _∙_}
@@ -8,6 +9,19 @@ use lib.Seq.{length-take-le}
 use Rattle.estimator.proofs.Rows.{mid-length, row-is, row-length, rest-length}
 use Rattle.estimator.proofs.write_row.Statement.{statement}
 use Rattle.estimator.proofs.write_row.Tie as tie
+
+abbrev many : tie.Start → ℕ
+many c = length (c .args .logs .now)
+
+-- the length of the first part that is back
+first : (c : tie.After-write-rates) → length (c .write-rates .last .0) ≡ many (c .before .before .before .before .before)
+first c = ap length (c .write-rates .ensures) ∙ length-map (c .before .before .before .before .before .args .logs .now) _
+
+few : (c : tie.Start) → many c ≤ length (c .args .p .sums)
+few c = omega (arith, c .pre .1, c .pre .2)
+
+second : (c : tie.After-write-rates2) → length (c .write-rates2 .last .0) ≡ many (c .before .before .before .before .before .before .before .before .before .before)
+second c = ap length (c .write-rates2 .ensures) ∙ length-map (take (many (c .before .before .before .before .before .before .before .before .before .before)) (c .before .before .before .before .before .before .before .before .before .before .args .p .sums)) _ ∙ length-take-le _ _ (few (c .before .before .before .before .before .before .before .before .before .before))
 
 add-e : tie.Need-add-e
 add-e c = search needs
@@ -32,50 +46,39 @@ mul-write-rates c = search needs
 
 sub-write-rates-2 : tie.Need-sub-write-rates-2
 sub-write-rates-2 c =
-    let a = c .before .before .before .before .before .before .args in
-    let v : length (c .before .before .write-rates .last .0) ≡ length (a .logs .now) = ap length (c .before .before .write-rates .ensures) ∙ length-map (a .logs .now) _ in
-    omega (arith, mid-length (a .row .now) (a .time) (c .before .before .write-rates .last .0) (length (a .logs .now)) (c .before .before .before .before .before .before .pre .0) v)
+    let a = c .before .before .before .before .before .before .before .args in
+    omega (arith, mid-length (a .row .now) (a .p .time) (c .before .before .write-rates .last .0) (many (c .before .before .before .before .before .before .before)) (c .before .before .before .before .before .before .before .pre .0) (first (c .before .before)))
 
 part-write-rates-start-2 : tie.Need-part-write-rates-start-2
 part-write-rates-start-2 c =
-    let a = c .before .before .before .before .before .before .args in
-    let v : length (c .before .before .write-rates .last .0) ≡ length (a .logs .now) = ap length (c .before .before .write-rates .ensures) ∙ length-map (a .logs .now) _ in
-    omega (arith, mid-length (a .row .now) (a .time) (c .before .before .write-rates .last .0) (length (a .logs .now)) (c .before .before .before .before .before .before .pre .0) v)
+    let a = c .before .before .before .before .before .before .before .args in
+    omega (arith, mid-length (a .row .now) (a .p .time) (c .before .before .write-rates .last .0) (many (c .before .before .before .before .before .before .before)) (c .before .before .before .before .before .before .before .pre .0) (first (c .before .before)))
 
 part-write-rates-end-2 : tie.Need-part-write-rates-end-2
 part-write-rates-end-2 c = search needs
 
 array-share-prefix-sums : tie.Need-array-share-prefix-sums
-array-share-prefix-sums c = search needs
+array-share-prefix-sums c = few (c .before .before .before .before .before .before .before .before)
 
 slice-aggregate-write-rates : tie.Need-slice-aggregate-write-rates
-slice-aggregate-write-rates c = let a = c .before .before .before .before .before .before .before .before .args in sym (length-take-le (length (a .logs .now)) (a .t4) (omega (arith, c .before .before .before .before .before .before .before .before .good)))
+slice-aggregate-write-rates c = sym (length-take-le _ _ (few (c .before .before .before .before .before .before .before .before .before)))
 
 write-rates-requires-2 : tie.Need-write-rates-requires-2
 write-rates-requires-2 c κs =
-    let a = c .before .before .before .before .before .before .before .before .args in
-    let v : length (c .before .before .before .before .write-rates .last .0) ≡ length (a .logs .now) = ap length (c .before .before .before .before .write-rates .ensures) ∙ length-map (a .logs .now) _ in
-    rest-length (a .row .now) (a .time) (c .before .before .before .before .write-rates .last .0) (length (a .logs .now)) (c .before .before .before .before .before .before .before .before .pre .0) v ∙ sym (length-take-le (length (a .logs .now)) (a .t4) (omega (arith, c .before .before .before .before .before .before .before .before .good)))
+    let a = c .before .before .before .before .before .before .before .before .before .args in
+    rest-length (a .row .now) (a .p .time) (c .before .before .before .before .write-rates .last .0) (many (c .before .before .before .before .before .before .before .before .before)) (c .before .before .before .before .before .before .before .before .before .pre .0) (first (c .before .before .before .before)) ∙ sym (length-take-le _ _ (few (c .before .before .before .before .before .before .before .before .before)))
 
 same-length : tie.Need-same-length
 same-length c =
-    let a = c .before .before .before .before .before .before .before .before .before .before .before .args in
-    let k = length (a .logs .now) in
-    let o = c .before .before .before .before .before .before .before .write-rates in
-    let u = c .before .before .write-rates2 in
-    let v : length (o .last .0) ≡ k = ap length (o .ensures) ∙ length-map (a .logs .now) _ in
-    let w : length (u .last .0) ≡ k = ap length (u .ensures) ∙ length-map (take k (a .t4)) _ ∙ length-take-le k (a .t4) (omega (arith, c .before .before .before .before .before .before .before .before .before .before .before .good)) in
-    row-length (a .row .now) (a .time) (o .last .0) (u .last .0) k (c .before .before .before .before .before .before .before .before .before .before .before .pre .0) v w
+    let a = c .before .before .before .before .before .before .before .before .before .before .before .before .args in
+    row-length (a .row .now) (a .p .time) (c .before .before .before .before .before .before .before .write-rates .last .0) (c .before .before .write-rates2 .last .0) (many (c .before .before .before .before .before .before .before .before .before .before .before .before)) (c .before .before .before .before .before .before .before .before .before .before .before .before .pre .0) (first (c .before .before .before .before .before .before .before)) (second (c .before .before))
 
 returns : tie.Need-returns
 returns c =
-    let a = c .before .before .before .before .before .before .before .before .before .before .before .args in
-    let k = length (a .logs .now) in
+    let a = c .before .before .before .before .before .before .before .before .before .before .before .before .args in
     let o = c .before .before .before .before .before .before .before .write-rates in
     let u = c .before .before .write-rates2 in
-    let v : length (o .last .0) ≡ k = ap length (o .ensures) ∙ length-map (a .logs .now) _ in
-    let w : length (u .last .0) ≡ k = ap length (u .ensures) ∙ length-map (take k (a .t4)) _ ∙ length-take-le k (a .t4) (omega (arith, c .before .before .before .before .before .before .before .before .before .before .before .good)) in
-    row-is (a .row .now) (a .time) (o .last .0) (u .last .0) k (c .before .before .before .before .before .before .before .before .before .before .before .pre .0) v w ∙ rw (o .ensures, u .ensures)
+    row-is (a .row .now) (a .p .time) (o .last .0) (u .last .0) (many (c .before .before .before .before .before .before .before .before .before .before .before .before)) (c .before .before .before .before .before .before .before .before .before .before .before .before .pre .0) (first (c .before .before .before .before .before .before .before)) (second (c .before .before)) ∙ rw (o .ensures, u .ensures)
 
 pub write-row-spec : {M : Type 1} → statement M
 write-row-spec =

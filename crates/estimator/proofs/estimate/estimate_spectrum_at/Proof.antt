@@ -20,13 +20,10 @@ use Rattle.estimator.proofs.estimate.estimate_spectrum_at.Tie as tie
 abbrev input-of : tie.Start → Input
 input-of c = input (c .args .system) (c .args .matrix .now) (c .args .time) (c .args .state .now) (c .args .config)
 
-abbrev start : tie.After-validate → tie.Start
-start c = c .before .before .before .before .before .before
-
 -- what is known behind the tests
 module _ (c : tie.After-enum-told) where
   abbrev s : tie.Start
-  s = start (c .before .before)
+  s = c .before .before .before .before .before .before .before .before
 
   abbrev k : ℕ
   k = s .args .config .«top_k»
@@ -39,15 +36,14 @@ module _ (c : tie.After-enum-told) where
 
   known : Ready (s .args .system) (s .args .matrix .now) (s .args .config .«step_size») (s .args .time) (s .args .state .now) k (s .args .config .«steps_per_window») (s .args .config .windows) (s .args .config .«transient_windows»)
       × (s .args .config .windows * (1 + 2 * k) ≤ length (s .args .rows .now)) × (k ≤ length (s .args .exponents .now)) × (d ≤ length (s .args .final-state .now))
-  known = ready (input-of s) k _ _ _ passed
+  known = ready (input-of s) k (length (s .args .rows .now)) (length (s .args .exponents .now)) (length (s .args .final-state .now)) passed
 
   entries : k * d ≤ 256
   entries = few-entries k d (known .0 .directions) (known .0 .small)
 
 -- the front of the array that the state was copied to
-copied : (c : tie.After-copy-to) (z : List Float)
-    → take (length (start (c .before .before .before .before) .args .state .now)) (c .copy-to .last .0 ++ z) ≡ start (c .before .before .before .before) .args .state .now
-copied c z = front (start (c .before .before .before .before) .args .state .now) (c .copy-to .last .0) z (c .copy-to .ensures)
+copied : (c : tie.After-copy-to) (z : List Float) → take (length (c .before .before .before .before .before .before .before .before .before .before .before .args .state .now)) (c .copy-to .last .0 ++ z) ≡ c .before .before .before .before .before .before .before .before .before .before .before .args .state .now
+copied c z = front (c .before .before .before .before .before .before .before .before .before .before .before .args .state .now) (c .copy-to .last .0) z (c .copy-to .ensures)
 
 validate-requires : tie.Need-validate-requires
 validate-requires c κs = search needs
@@ -60,25 +56,25 @@ refused-requires c κs = search needs
 
 returns : tie.Need-returns
 returns c =
-    let s = c .before .before .before .before in
-    let a = start s .args in
-    refused-by-tests (input-of (start s)) _ _ _ _ _ _ (c .refused .ensures)
-    (sym (ap reported (c .before .before .e .given .1)) ∙ s .validate .ensures ∙ tests-are (input-of (start s)) (a .config .«top_k») (a .rows .now) (a .exponents .now) (a .final-state .now))
+    let s = c .before .before .before .before .before .before .before .before .before .before in
+    let a = s .args in
+    refused-by-tests (input-of s) (a .config .«top_k») (a .rows .now) (a .exponents .now) (a .final-state .now) _ (c .refused .result) (c .refused .ensures)
+    (sym (ap reported (c .before .before .e .given .1)) ∙ (c .before .before .before .before .validate .ensures ∙ tests-are (input-of s) (a .config .«top_k») (a .rows .now) (a .exponents .now) (a .final-state .now)))
 
 enum-told : tie.Need-enum-told
 enum-told c = search needs
 
 mul-kd : tie.Need-mul-kd
-mul-kd c = omega (arith, entries c)
+mul-kd c = omega (arith, entries (c .before))
 
 array-borrow-prefix-moving : tie.Need-array-borrow-prefix-moving
-array-borrow-prefix-moving c = known c .0 .small
+array-borrow-prefix-moving c = known (c .before) .0 .small
 
 slice-aggregate-copy-to : tie.Need-slice-aggregate-copy-to
-slice-aggregate-copy-to c = sym (length-take-le _ _ (known (c .before) .0 .small))
+slice-aggregate-copy-to c = sym (length-take-le _ _ (known (c .before .before) .0 .small))
 
 copy-to-requires : tie.Need-copy-to-requires
-copy-to-requires c κs = length-take-le _ _ (known (c .before) .0 .small)
+copy-to-requires c κs = length-take-le _ _ (known (c .before .before) .0 .small)
 
 array-borrow-prefix-moving-2 : tie.Need-array-borrow-prefix-moving-2
 array-borrow-prefix-moving-2 c = simp length-append (omega (arith, ap length (c .before .copy-to .ensures)))
@@ -87,18 +83,16 @@ slice-aggregate-run : tie.Need-slice-aggregate-run
 slice-aggregate-run c = sym (ap length (copied (c .before .before) _))
 
 array-borrow-prefix-tangents : tie.Need-array-borrow-prefix-tangents
-array-borrow-prefix-tangents c = entries (c .before .before .before .before)
+array-borrow-prefix-tangents c = entries (c .before .before .before .before .before)
 
 slice-aggregate-run-2 : tie.Need-slice-aggregate-run-2
-slice-aggregate-run-2 c = sym (length-take-le _ _ (entries (c .before .before .before .before .before)))
+slice-aggregate-run-2 c = sym (length-take-le _ _ (entries (c .before .before .before .before .before .before)))
 
 run-requires : tie.Need-run-requires
 run-requires c κs =
-    let g = c .before .before .before .before .before .before in
-    let b = g .before .before in
-    let e = copied g _ in
-    let n = known b in
-    (ready-front _ _ _ _ _ _ _ _ _ _ e (n .0), length-take-le _ _ (entries b) ∙ rw e, n .1, n .2, rw e (n .3))
+    let e = copied (c .before .before .before .before .before .before) _ in
+    let n = known (c .before .before .before .before .before .before .before .before .before) in
+    (ready-front _ _ _ _ _ _ _ _ _ _ e (n .0), length-take-le _ _ (entries (c .before .before .before .before .before .before .before .before .before)) ∙ rw e, n .1, n .2, rw e (n .3))
 
 same-length : tie.Need-same-length
 same-length c = search needs
@@ -111,10 +105,10 @@ same-length-3 c = search needs
 
 returns-2 : tie.Need-returns-2
 returns-2 c =
-    let r = c .before .before .before .before .before .before .before .before in
-    let g = r .before .before .before .before .before .before .before in
-    let b = g .before .before in
-    run-by-tests (input-of (s b)) _ _ _ _ _ _ (copied g _) (passed b ∙ tests-are (input-of (s b)) (k b) (s b .args .rows .now) (s b .args .exponents .now) (s b .args .final-state .now)) (r .run .ensures)
+    let s = c .before .before .before .before .before .before .before .before .before .before .before .before .before .before .before .before .before .before .before .before .before .before .before .before .before .before in
+    let a = s .args in
+    run-by-tests (input-of s) (a .config .«top_k») (a .rows .now) (a .exponents .now) (a .final-state .now) _ _ (copied (c .before .before .before .before .before .before .before .before .before .before .before .before .before .before .before) _)
+    (passed (c .before .before .before .before .before .before .before .before .before .before .before .before .before .before .before .before .before .before) ∙ tests-are (input-of s) (a .config .«top_k») (a .rows .now) (a .exponents .now) (a .final-state .now)) (c .before .before .before .before .before .before .before .before .run .ensures)
 
 pub estimate-spectrum-at-spec : {M : Type 1} → statement M
 estimate-spectrum-at-spec =

@@ -1,0 +1,16 @@
+-- `estimator::duration` meets its contract.
+use borrow.Author.Needs.{needs}
+use mathlib.Core.Path.{ap}
+use lib.Ieee.{Float}
+use Rattle.floats.specs.Arithmetic.{_⊗_}
+use Rattle.estimator.proofs.duration.Statement.{statement}
+use Rattle.estimator.proofs.duration.Tie as tie
+
+as-float-requires : tie.Need-as-float-requires
+as-float-requires c κs = search needs
+
+returns : tie.Need-returns
+returns c = ap (λ (x : Float). c .before .before .args .config .«step_size» ⊗ x) (c .before .as-float .ensures)
+
+pub duration-spec : {M : Type 1} → statement M
+duration-spec = tie.close (tie.spec as-float-requires returns)
