@@ -7,36 +7,29 @@ use mathlib.Core.Logic.{_⊎_, inl, inr, _↔_, _≢_}
 use mathlib.Core.Bool.{Bool, true, false, cond}
 use mathlib.Core.List.{List, [], _∷_, _++_, map}
 use mathlib.Core.Option.{Option, none, some}
+use borrow.Author.Tests.{lt-ltb, le-leb}
 use lib.Dec.{leb, ltb}
-use lib.ListN.{length, take, length-map}
+use lib.ListN.{length, take, length-map, drop}
 use lib.Seq.{take-nil}
 use lib.Ieee.{Float}
-use Rattle.gram_schmidt.specs.Orthonormalise.{Basis, orthonormalise}
-use Rattle.benettin.specs.Run.{Dynamics, Problem, RunState, Status, ok, refused, refused-at, tested, stepped, step, steps, unless-collapsed, reorthonormalise, count-faint}
-use Rattle.benettin.specs.Run.{Row, Course, accumulate, row, initial, check-duration, course-of}
-use Rattle.benettin.specs.Run.{RunAnswer, ended, stopped, answer, OutputLengths, run-past, run}
-use Rattle.floats.specs.Vector.{concat}
-use Rattle.benettin.proofs.Prefix.{cut-at, cut-none, cut-some, map-take, zip-take, take-replicate, drawn-directions-take, drawn-directions-sized, drawn-directions-length}
-use Rattle.benettin.proofs.Prefix.{first-not-finite-directions, Below, first-not-finite-below, cut, orthonormalise-take, orthonormalise-sized, Whole, orthonormalise-whole}
-use Rattle.benettin.proofs.Simulation.{Frame, Fine, Gone, Sim, SimT, Law, sim-course}
 use lib.Ieee.Scale.{finite}
-use Rattle.error.specs.Tests.{test, Test, first-failing}
-use Rattle.floats.specs.Finite.{first-not-finite}
-use Rattle.benettin.specs.LeadingSpectrum.{leading-row, leading, AtOrAbove, RefusedFrom, number}
-use Rattle.floats.specs.Arithmetic.{_⊕_, zero⁺}
-use Rattle.floats.proofs.Vector.{Sized, length-concat, map-sized}
-use mathlib.Core.Path.{sym}
-use mathlib.Core.List.{_++_}
-use lib.ListN.{drop}
-use borrow.Author.Tests.{lt-ltb, le-leb}
-use Rattle.error.specs.Tests.{Test, first-failing, _else_}
+use Rattle.error.specs.Tests.{test, Test, first-failing, _else_}
 use Rattle.error.specs.declared.Refusal.{Refusal}
 use Rattle.error.proofs.Tests.{skip, first-append}
-use Rattle.benettin.specs.Run.{output-tests, all-tests}
-use Rattle.benettin.specs.LeadingSpectrum.{LeadingSpectrum}
-use Rattle.benettin.specs.Estimate.{Input, early-tests, problem, dynamics, estimate}
+use Rattle.floats.specs.Vector.{concat}
+use Rattle.floats.specs.Finite.{first-not-finite}
+use Rattle.floats.specs.Arithmetic.{_⊕_, zero⁺}
+use Rattle.floats.proofs.Vector.{Sized, length-concat, map-sized}
 use Rattle.system.specs.System.{dim}
 use Rattle.rk4.proofs.Lengths.{direction-length}
+use Rattle.gram_schmidt.specs.Orthonormalise.{Basis, orthonormalise}
+use Rattle.benettin.specs.Run.{Dynamics, Problem, RunState, Status, ok, refused, refused-at, tested, stepped, step, steps, unless-collapsed, reorthonormalise, count-faint, Row, Course}
+use Rattle.benettin.specs.Run.{accumulate, row, initial, check-duration, course-of, RunAnswer, ended, stopped, answer, OutputLengths, run-past, run, output-tests, all-tests}
+use Rattle.benettin.specs.LeadingSpectrum.{leading-row, leading, AtOrAbove, RefusedFrom, number, LeadingSpectrum}
+use Rattle.benettin.specs.Estimate.{Input, early-tests, problem, dynamics, estimate}
+use Rattle.benettin.proofs.Prefix.{cut-at, cut-none, cut-some, map-take, zip-take, take-replicate, drawn-directions-take, drawn-directions-sized, drawn-directions-length}
+use Rattle.benettin.proofs.Prefix.{first-not-finite-directions, Below, first-not-finite-below, cut, orthonormalise-take, orthonormalise-sized, Whole, orthonormalise-whole}
+use Rattle.benettin.proofs.Simulation.{Frame, Fine, Gone, Similar, SimilarCourses, Law, similar-course}
 
 -- ---- what is asked of a problem
 
@@ -75,23 +68,23 @@ prefix d k =
     }
 
 prefix-tested : (d k : ℕ) → 0 < d → (p q q′ : Option ℕ) (b : Bool) (c n : RunState) → Sized d (n .directions) → q′ ≡ cut-at (k * d) q
-    → Sim (prefix d k) (tested p q b c n) (tested p q′ b (prefix-of k c) (prefix-of k n))
+    → Similar (prefix d k) (tested p q b c n) (tested p q′ b (prefix-of k c) (prefix-of k n))
 unfolding tested
 prefix-tested d k pd (some i) q q′ b c n s e = inr refl
 prefix-tested d k pd none none q′ false c n s e = rw (e, cut-none) (inr refl)
 prefix-tested d k pd none none q′ true c n s e = rw (e, cut-none) (inr (s, refl))
 prefix-tested d k pd none (some i) q′ b c n s e = rw e (go (cut-some (k * d) i))
   where
-    go : (cut-at (k * d) (some i) ≡ some i) ⊎ (k * d ≤ i) → Sim (prefix d k) (refused (refused-at 17 i c)) (tested none (cut-at (k * d) (some i)) b (prefix-of k c) (prefix-of k n))
+    go : (cut-at (k * d) (some i) ≡ some i) ⊎ (k * d ≤ i) → Similar (prefix d k) (refused (refused-at 17 i c)) (tested none (cut-at (k * d) (some i)) b (prefix-of k c) (prefix-of k n))
     go (inl f) = rw f (inr refl)
     go (inr h) = inl (inl (inr (refl, le-div-iff-mul-le pd .1 h)))
 
-prefix-collapsed : (d k : ℕ) (o : Option ℕ) (c : RunState) (b : Basis) → Sized d (b .directions) → Sim (prefix d k) (unless-collapsed o c b) (unless-collapsed (cut-at k o) (prefix-of k c) (cut k b))
+prefix-collapsed : (d k : ℕ) (o : Option ℕ) (c : RunState) (b : Basis) → Sized d (b .directions) → Similar (prefix d k) (unless-collapsed o c b) (unless-collapsed (cut-at k o) (prefix-of k c) (cut k b))
 unfolding unless-collapsed
 prefix-collapsed d k none c b s = rw cut-none (inr (s, refl))
 prefix-collapsed d k (some i) c b s = go (cut-some k i)
   where
-    go : (cut-at k (some i) ≡ some i) ⊎ (k ≤ i) → Sim (prefix d k) (refused (refused-at 14 i c)) (unless-collapsed (cut-at k (some i)) (prefix-of k c) (cut k b))
+    go : (cut-at k (some i) ≡ some i) ⊎ (k ≤ i) → Similar (prefix d k) (refused (refused-at 14 i c)) (unless-collapsed (cut-at k (some i)) (prefix-of k c) (cut k b))
     go (inl f) = rw f (inr refl)
     go (inr h) = inl (inl (inl (refl, h)))
 
@@ -107,16 +100,16 @@ row-leading : (M : Dynamics) (k : ℕ) (c : RunState) → row M (prefix-of k c) 
 unfolding row
 row-leading M k c = simp map-take
 
-pub duration-sim : (X : Frame) (M : Dynamics) (c e : RunState) → X .Kept c e → X .Same (refused-at 15 0 c) (refused-at 15 0 e) → Sim X (check-duration M c) (check-duration M e)
+pub duration-sim : (X : Frame) (M : Dynamics) (c e : RunState) → X .Kept c e → X .Same (refused-at 15 0 c) (refused-at 15 0 e) → Similar X (check-duration M c) (check-duration M e)
 unfolding check-duration
 duration-sim X M c e r s = go (finite (M .duration))
   where
-    go : (b : Bool) → Sim X (cond b (ok c) (refused (refused-at 15 0 c))) (cond b (ok e) (refused (refused-at 15 0 e)))
+    go : (b : Bool) → Similar X (cond b (ok c) (refused (refused-at 15 0 c))) (cond b (ok e) (refused (refused-at 15 0 e)))
     go true = inr r
     go false = inr s
 
 module _ (M : Dynamics) (keeps : Keeps M) (pd : 0 < M .dim) (k : ℕ) where
-  prefix-step : (c : RunState) → Sized (M .dim) (c .directions) → Sim (prefix (M .dim) k) (step M c) (step M (prefix-of k c))
+  prefix-step : (c : RunState) → Sized (M .dim) (c .directions) → Similar (prefix (M .dim) k) (step M c) (step M (prefix-of k c))
   unfolding step
   prefix-step c s =
       let a = M .advance (c .steps) (c .state) in
@@ -127,7 +120,7 @@ module _ (M : Dynamics) (keeps : Keeps M) (pd : 0 < M .dim) (k : ℕ) where
       (prefix-tested (M .dim) k pd (first-not-finite (a .0)) (first-not-finite (concat vs)) (first-not-finite (concat (take k vs))) (finite t) c (stepped c (a .0) vs t) sz
       (first-not-finite-directions (M .dim) k vs sz))
 
-  prefix-reorthonormalise : (c : RunState) → Sized (M .dim) (c .directions) → Sim (prefix (M .dim) k) (reorthonormalise M c) (reorthonormalise M (prefix-of k c))
+  prefix-reorthonormalise : (c : RunState) → Sized (M .dim) (c .directions) → Similar (prefix (M .dim) k) (reorthonormalise M c) (reorthonormalise M (prefix-of k c))
   unfolding reorthonormalise
   prefix-reorthonormalise c s =
       let b = orthonormalise (M .lengths) [] (c .directions) in
@@ -242,7 +235,7 @@ late-answer M n k K rs (refused r) y (inl l) = l
 late-answer M n k K rs x (ok c) (inr l) = absurd l
 late-answer M n k K rs x (refused r) (inr l) = absurd l
 
-low-answer : (P : Problem) (k : ℕ) (t : Course) → SimT (low (P .dynamics .dim) k) t t → ¬ RefusedFrom (P .dynamics .dim) k (answer (P .dynamics) (P .windows) k (t .rows) (t .end))
+low-answer : (P : Problem) (k : ℕ) (t : Course) → SimilarCourses (low (P .dynamics .dim) k) t t → ¬ RefusedFrom (P .dynamics .dim) k (answer (P .dynamics) (P .windows) k (t .rows) (t .end))
 unfolding answer
 low-answer P k t s = go (t .end) s
   where
@@ -259,16 +252,16 @@ refused-leading d k (ended rows x) l = l
 refused-leading d k (stopped rows r f) l = l
 
 module _ (P : Problem) (S : Sound P) (pd : 0 < P .dynamics .dim) (k K : ℕ) (h : k ≤ K) where
-  two-courses : SimT (prefix (P .dynamics .dim) k) (course-of P (initial P K)) (course-of P (initial P k))
+  two-courses : SimilarCourses (prefix (P .dynamics .dim) k) (course-of P (initial P K)) (course-of P (initial P k))
   unfolding initial
   two-courses =
-      sim-course (prefix (P .dynamics .dim) k) (P .dynamics) (P .dynamics) (prefix-law (P .dynamics) (S .keeps) pd k) (P .warm-up-steps) (P .warm-up-windows) (P .steps) (P .windows)
+      similar-course (prefix (P .dynamics .dim) k) (P .dynamics) (P .dynamics) (prefix-law (P .dynamics) (S .keeps) pd k) (P .warm-up-steps) (P .warm-up-windows) (P .steps) (P .windows)
       (initial P K) (initial P k) (drawn-directions-sized (P .generator) (P .dynamics .dim) K (P .seed), initial-prefix P k K h)
 
-  one-course : SimT (low (P .dynamics .dim) k) (course-of P (initial P k)) (course-of P (initial P k))
+  one-course : SimilarCourses (low (P .dynamics .dim) k) (course-of P (initial P k)) (course-of P (initial P k))
   unfolding initial
   one-course =
-      sim-course (low (P .dynamics .dim) k) (P .dynamics) (P .dynamics) (low-law (P .dynamics) (S .keeps) pd k) (P .warm-up-steps) (P .warm-up-windows) (P .steps) (P .windows)
+      similar-course (low (P .dynamics .dim) k) (P .dynamics) (P .dynamics) (low-law (P .dynamics) (S .keeps) pd k) (P .warm-up-steps) (P .warm-up-windows) (P .steps) (P .windows)
       (initial P k) (initial P k) ((drawn-directions-sized (P .generator) (P .dynamics .dim) k (P .seed), drawn-directions-length (P .generator) (P .dynamics .dim) k (P .seed)), refl)
 
   core : (leading k (run-past none P K) ≡ run-past none P k) ↔ ¬ RefusedFrom (P .dynamics .dim) k (run-past none P K)
@@ -284,7 +277,7 @@ module _ (P : Problem) (S : Sound P) (pd : 0 < P .dynamics .dim) (k K : ℕ) (h 
       to : leading k (answer (P .dynamics) (P .windows) K (t .rows) (t .end)) ≡ answer (P .dynamics) (P .windows) k (u .rows) (u .end) → ¬ RefusedFrom (P .dynamics .dim) k (answer (P .dynamics) (P .windows) K (t .rows) (t .end))
       to e l = low-answer P k u one-course (subst (RefusedFrom (P .dynamics .dim) k) e (refused-leading (P .dynamics .dim) k (answer (P .dynamics) (P .windows) K (t .rows) (t .end)) l))
 
-      from : SimT (prefix (P .dynamics .dim) k) t u → ¬ RefusedFrom (P .dynamics .dim) k (answer (P .dynamics) (P .windows) K (t .rows) (t .end))
+      from : SimilarCourses (prefix (P .dynamics .dim) k) t u → ¬ RefusedFrom (P .dynamics .dim) k (answer (P .dynamics) (P .windows) K (t .rows) (t .end))
           → leading k (answer (P .dynamics) (P .windows) K (t .rows) (t .end)) ≡ answer (P .dynamics) (P .windows) k (u .rows) (u .end)
       from (inl l) n = absurd (n (late-answer (P .dynamics) (P .windows) k K (t .rows) (t .end) (u .end) l))
       from (inr s) n = answer-leading (P .dynamics) (P .windows) k K h (t .rows) (u .rows) (t .end) (u .end) (s .0) (s .1)

@@ -5,3 +5,4 @@ pub mod LeadingSpectrum
 pub mod Refusals
 pub mod RunTests
 pub mod Draws
+pub mod Steps

@@ -3,6 +3,7 @@ pub mod Run
 pub mod Estimate
 pub mod Outputs
 pub mod RunTests
+pub mod Window
 pub mod LeadingSpectrum
 pub mod Refusals
 pub mod Examples

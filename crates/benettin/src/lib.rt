@@ -6,6 +6,7 @@
 // starts from: they need nothing of a run under way. Crate estimator proves that the code is this run.
 pub mod basis;
 pub mod tests;
+pub mod window;
 
 ghost use mathlib.Core.Path.{_≡_};
 ghost use Rattle.error.specs.Refusal.{reported};

@@ -17,12 +17,11 @@ use Rattle.floats.specs.Arithmetic.{_⊗_, zero⁺}
 use Rattle.system.specs.System.{dim}
 use Rattle.system.specs.declared.System.{System}
 use Rattle.gram_schmidt.specs.GramSchmidt.{orthonormalised}
-use Rattle.benettin.specs.Run.{Dynamics, RunState, Status, ok, refused, refused-at, unless-collapsed, reorthonormalise, warm-up, measured, as-float, _then_, draws, check-duration, warmed-up, measured-from, course}
+use Rattle.benettin.specs.Run.{Dynamics, RunState, Status, ok, refused, refused-at, unless-collapsed, reorthonormalise, warm-up, as-float, _then_, draws, check-duration, warmed-up, measured-from, course}
 use Rattle.benettin.specs.Estimate.{dynamics, splitmix64, limit}
-use Rattle.benettin.specs.Outputs.{flat-rows}
 use Rattle.benettin.proofs.Draws.{draws-length, drawn-are}
 use Rattle.benettin.proofs.Prefix.{take-replicate}
-use Rattle.estimator.specs.Progress.{run-state, refused-by, status, Within, Room, Fitting, Recorded, recorded, written}
+use Rattle.estimator.specs.Progress.{run-state, refused-by, status, Within, Room, Fitting, written}
 use Rattle.estimator.specs.Start.{fresh, drawn}
 use Rattle.estimator.specs.declared.Progress.{Progress}
 use Rattle.estimator.proofs.Windows.{basis, collapsed-refused, reported-is, whole, directions-are, logs-are, reports-are}
@@ -115,14 +114,9 @@ module _ (S : System) (m : List Float) (h : Float) (n w k : ℕ) (x t₀ norms :
 
 -- ---- the whole run
 
-module _ (M : Dynamics) (s w n : ℕ) (c : RunState) (rows : List Float) (e : RunState) (v : Outcome) (f : status v e ≡ warmed-up M s w c) where
-  pub trip-stop : (ε : LyapunovError) → v ≡ Refused ε → recorded rows (status v e) ≡ written rows 0 (course M s w s n c)
-  unfolding course measured-from flat-rows
-  trip-stop ε g = rw (← f, g)
-
-  pub trip-on : (x : Recorded) → v ≡ Accepted → x ≡ written rows 0 (measured M s n e) → x ≡ written rows 0 (course M s w s n c)
-  unfolding course measured-from
-  trip-on x g h = h ∙ rw (← f, g)
+pub course-from : (M : Dynamics) (s w n : ℕ) (c : RunState) (rows : List Float) (o : Status) → o ≡ warmed-up M s w c → written rows 0 (measured-from M s n o) ≡ written rows 0 (course M s w s n c)
+unfolding course
+course-from M s w n c rows o e = rw e
 
 -- ---- a copy
 

@@ -1,7 +1,6 @@
 -- Laws that the proofs of the functions cite, one subject a file.
 pub mod Lists
 pub mod Rows
-pub mod Steps
 pub mod Loops
 pub mod Windows
 pub mod Draws

@@ -20,14 +20,15 @@ use Rattle.floats.proofs.Sets.{sets-append}
 use Rattle.floats.proofs.Vector.{vector-fits}
 use Rattle.system.specs.System.{dim}
 use Rattle.rk4.specs.Stepper.{zip}
+use Rattle.rk4.proofs.Tests.{Passed}
 use Rattle.system.specs.declared.System.{System}
-use Rattle.benettin.specs.Run.{Dynamics, RunState, RunRefusal, Status, ok, refused, steps, window, warm-up, measured, with-row, accumulate, row, as-float, Course, _then_}
+use Rattle.benettin.specs.Run.{Dynamics, RunState, RunRefusal, Status, ok, refused, steps, window, warm-up, measured, measured-from, with-row, accumulate, row, as-float, Course, _then_}
 use Rattle.benettin.specs.Estimate.{dynamics}
 use Rattle.benettin.specs.Outputs.{flat-row, flat-rows}
+use Rattle.benettin.specs.RunTests.{Ready}
 use Rattle.estimator.specs.Progress.{run-state, refused-by, status, updated, with-sums, Within, Room, Fitting, Recorded, recorded, written, with-row-of}
 use Rattle.estimator.specs.declared.Progress.{Progress}
 use Rattle.estimator.proofs.Lists.{updated-take, updated-length}
-use Rattle.estimator.specs.Progress.{Stepping}
 
 -- ---- what is kept beside the definitions
 
@@ -44,6 +45,11 @@ fitting-kept x′ t′ out′ f a b c =
       few = f .few;
       norms = c ∙ f .norms;
     }
+
+pub fitting-ready : {S : System} {m x x′ t norms : List Float} {h time : Float} {k steps windows warm-up : ℕ} → Ready S m h time x k steps windows warm-up
+    → length x′ ≡ length x → length t ≡ k * length x → length norms ≡ 32 → Fitting S m h x′ t norms k
+fitting-ready r e l n =
+    record { matrix = r .matrix; size = r .size; state = r .state ∙ sym e; some = rw e (r .some); small = rw e (r .small); tangents = l ∙ rw e; few = omega (arith, r .small, r .directions); norms = n }
 
 pub within-start : (k n : ℕ) (p : Progress) → finite (p .time) ≡ true → Within k (0 * n) 0 0 p p
 within-start k n p h = record { behind = refl; counts = refl; totals = refl; clock = h; steps = omega arith; windows = omega arith; faint = λ i. omega arith }
@@ -153,8 +159,8 @@ within-more k made p q y = record { behind = y .behind; counts = y .counts; tota
 
 -- ---- the measured windows
 
-abbrev pub rest : Dynamics → ℕ → ℕ → List Float → ℕ → ℕ → RunState → Recorded
-rest M s n rows a w c = written rows a (measured M s (n - w) c)
+abbrev pub rest : Dynamics → ℕ → ℕ → List Float → ℕ → ℕ → Status → Recorded
+rest M s n rows a w o = written rows a (measured-from M s (n - w) o)
 
 module _ (M : Dynamics) (rows : List Float) (a : ℕ) (old new : List Float) (e : RunState) (f : RunState → Course) where
   next-from : (o : Status) → recorded new (ok e) ≡ with-row-of M old o → written rows a (with-row M o f) ≡ recorded (sets rows a (new ++ flat-rows (f e .rows))) (f e .end)
@@ -188,30 +194,43 @@ put-same rows a width h = Put.put-same a (a + width - a) rows
 
 module _ (M : Dynamics) (s n w : ℕ) (rows : List Float) (a width : ℕ) (c e : RunState) (v : Outcome) (new : List Float) (h : w < n) (l : a + width ≤ length rows) (g : length new ≡ width)
     (t : recorded new (status v e) ≡ with-row-of M (take (a + width - a) (drop a rows)) (window M s c)) where
-  pub measure-next : v ≡ Accepted → rest M s n rows a w c ≡ rest M s n (putMid a (a + width - a) rows new) (a + width) (w + 1) e
+  abbrev put : List Float
+  put = putMid a (a + width - a) rows new
+
+  measure-next : v ≡ Accepted → written rows a (measured M s (suc (n - (w + 1))) c) ≡ written put (a + width) (measured M s (n - (w + 1)) e)
   unfolding measured
   measure-next k =
-      let z : n - w ≡ suc (n - (w + 1)) = omega arith in
       let T = measured M s (n - (w + 1)) e in
-      rw z (next-from M rows a _ new e (measured M s (n - (w + 1))) (window M s c) (ap (λ (u : Outcome). recorded new (status u e)) (sym k) ∙ t))
-      ∙ ap (λ (r : List Float). recorded r (T .end))
-      (sets-append rows a new (flat-rows (T .rows)) ∙ rw (← put-is rows a width new l g, g))
+      next-from M rows a _ new e (measured M s (n - (w + 1))) (window M s c) (ap (λ (u : Outcome). recorded new (status u e)) (sym k) ∙ t)
+      ∙ ap (λ (r : List Float). recorded r (T .end)) (sets-append rows a new (flat-rows (T .rows)) ∙ rw (← put-is rows a width new l g, g))
 
-  pub measure-stop : (ε : LyapunovError) → v ≡ Refused ε → rest M s n rows a w c ≡ recorded (putMid a (a + width - a) rows new) (status v e)
+  measure-refused : (ε : LyapunovError) → v ≡ Refused ε → written rows a (measured M s (suc (n - (w + 1))) c) ≡ recorded put (status v e)
   unfolding measured
-  measure-stop ε k =
-      let z : n - w ≡ suc (n - (w + 1)) = omega arith in
+  measure-refused ε k =
       let q = stop-from M rows a _ new e (measured M s (n - (w + 1))) (window M s c) (refused-by ε e) (ap (λ (u : Outcome). recorded new (status u e)) (sym k) ∙ t) in
-      let x : rest M s n rows a w c ≡ recorded rows (refused (refused-by ε e)) = rw z (q .0) in
-      x ∙ rw (q .1, put-same rows a width l, k)
+      q .0 ∙ rw (q .1, put-same rows a width l, k)
 
-module _ (M : Dynamics) (s n : ℕ) (rows : List Float) (a : ℕ) (c : RunState) where
-  pub measure-start : rest M s n rows 0 0 c ≡ written rows 0 (measured M s n c)
-  measure-start = rw sub-zero
+  turn-by : (u : Outcome) → v ≡ u → written rows a (measured M s (suc (n - (w + 1))) c) ≡ rest M s n put (a + width) (w + 1) (status v e)
+  unfolding measured-from flat-rows
+  turn-by Accepted k = measure-next k ∙ rw k
+  turn-by (Refused ε) k = measure-refused ε k ∙ rw k
 
-  pub measure-end : (w : ℕ) (v : Outcome) → n ≤ w → v ≡ Accepted → rest M s n rows a w c ≡ recorded rows (status v c)
-  unfolding measured flat-rows
-  measure-end w v h g = let z : n - w ≡ 0 = omega arith in rw (z, g)
+  pub measure-turn : (o : Outcome) → o ≡ Accepted → rest M s n rows a w (status o c) ≡ rest M s n put (a + width) (w + 1) (status v e)
+  unfolding measured-from
+  measure-turn o k = let z : n - w ≡ suc (n - (w + 1)) = omega arith in rw (k, z) (turn-by v refl)
+
+module _ (M : Dynamics) (s n : ℕ) (rows : List Float) (a w : ℕ) where
+  pub measure-start : (o : Status) → rest M s n rows 0 0 o ≡ written rows 0 (measured-from M s n o)
+  measure-start o = rw sub-zero
+
+  pub measure-stop : (c : RunState) (v : Outcome) (ε : LyapunovError) → v ≡ Refused ε → rest M s n rows a w (status v c) ≡ recorded rows (status v c)
+  unfolding measured-from flat-rows
+  measure-stop c v ε k = rw k
+
+  pub measure-end : (o : Status) → n ≤ w → rest M s n rows a w o ≡ recorded rows o
+  unfolding measured-from measured flat-rows
+  measure-end (ok c) h = let z : n - w ≡ 0 = omega arith in rw z
+  measure-end (refused r) h = refl
 
 -- the row of window w is within the slice
 pub row-room : (w W width a l l₀ : ℕ) → w < W → W * width ≤ l₀ → a ≡ w * width → l ≡ l₀ → a + width ≤ l
@@ -230,5 +249,15 @@ rows-kept rows a width new h g = ap length (put-is rows a width new h g) ∙ len
 
 -- ---- what a step needs
 
-pub stepping-of : {S : System} {m x t norms : List Float} {h time : Float} {k : ℕ} → Fitting S m h x t norms k → finite time ≡ true → Stepping S m h time x t k
-stepping-of f τ = record { matrix = f .matrix; size = f .size; clock = τ; state = f .state; some = f .some; small = f .small; tangents = f .tangents; few = f .few }
+pub passed-of : {S : System} {m x t norms : List Float} {h time : Float} {k : ℕ} → Fitting S m h x t norms k → finite time ≡ true → Passed S m time x t k h
+passed-of {k = k} f τ =
+    record {
+      dimension-above = rw (f .state) (f .some);
+      dimension-within = rw (f .state) (f .small);
+      matrix = f .matrix;
+      state = sym (f .state);
+      count = f .few;
+      tangents = f .tangents ∙ ap (λ (j : ℕ). k * j) (sym (f .state));
+      initial-time = τ;
+      step-size = f .size;
+    }

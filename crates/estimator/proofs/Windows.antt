@@ -2,7 +2,7 @@
 use Prim.Native.Nat.{ℕ, _+_, _-_, _*_, _/_, _≤_, _<_}
 use native.Mathlib.Nat.{mul-div-cancel}
 use native.Mathlib.Omega.{arith}
-use mathlib.Core.Path.{_≡_, refl, sym, ap, _∙_}
+use mathlib.Core.Path.{_≡_, refl, sym, ap, _∙_, subst}
 use mathlib.Core.List.{List, [], _++_}
 use mathlib.Core.Option.{Option, none, some}
 use borrow.Author.Tests.{ne-eqb, le-ltb}
@@ -19,6 +19,7 @@ use Rattle.floats.specs.Vector.{chunks, concat}
 use Rattle.floats.proofs.Vector.{Sized, chunks-sized, chunks-concat, chunks-length}
 use Rattle.system.specs.System.{dim}
 use Rattle.rk4.specs.Stepper.{zip}
+use Rattle.rk4.proofs.Tests.{Passed}
 use Rattle.system.specs.declared.System.{System}
 use Rattle.gram_schmidt.specs.Orthonormalise.{Basis, orthonormalise}
 use Rattle.gram_schmidt.specs.GramSchmidt as GramSchmidt
@@ -26,9 +27,11 @@ use Rattle.gram_schmidt.specs.GramSchmidt.{euclidean, stored, orthonormalised, 
 use Rattle.gram_schmidt.proofs.Finished.{after, numbers-length}
 use Rattle.benettin.specs.Run.{Dynamics, RunState, RunRefusal, ok, refused, steps, unless-collapsed, reorthonormalise, with-basis, count-faint, window, _then_}
 use Rattle.benettin.specs.Estimate.{dynamics}
+use Rattle.benettin.specs.Window.{with-steps, advance-steps, left}
+use Rattle.benettin.specs.declared.window.Advance.{Advance}
+use Rattle.benettin.proofs.Steps.{Follows, steps-follow}
 use Rattle.benettin.proofs.Prefix.{orthonormalise-sized, orthonormalise-whole}
-use Rattle.estimator.specs.Progress.{with-steps, run-state, refused-by, status, moved, with-faint, updated, counted, Within}
-use Rattle.estimator.specs.declared.Advance.{Advance}
+use Rattle.estimator.specs.Progress.{run-state, refused-by, status, moved, with-faint, updated, counted, Within, Fitting}
 use Rattle.estimator.specs.declared.Progress.{Progress}
 use Rattle.estimator.proofs.Lists.{updated-take, updated-drop, updated-length, counted-more}
 
@@ -91,6 +94,19 @@ module _ (d k : ℕ) (t out : List Float) (h : 0 < d) (g : k ≤ 16) (l : length
       pub reports-many : length (take k (drop k out′)) ≡ k
       reports-many = ap length reports-are ∙ reports-length
 
+-- ---- its steps
+
+abbrev pub Stepped : System → List Float → Float → ℕ → ℕ → Float → List Float → List Float → Advance → List Float → List Float → Type 0
+Stepped S m h n k time x t a x′ t′ =
+    ((c : RunState) (made : ℕ) → status (a .outcome) (with-steps (dim S) k c x′ t′ (a .time) (made + a .steps)) ≡ steps (dynamics S m h n) n (with-steps (dim S) k c x t time made))
+    × (a .steps ≤ n) × (finite (a .time) ≡ true)
+
+pub stepped-by : (S : System) (m : List Float) (h : Float) (n k : ℕ) (time : Float) (x t : List Float) (a : Advance) (x′ t′ : List Float) → Passed S m time x t k h
+    → left a x′ t′ ≡ advance-steps S m k h n 0 time x t → Stepped S m h n k time x t a x′ t′
+stepped-by S m h n k time x t a x′ t′ P e =
+    let r = subst (Follows S m k h n n 0 time x t) (sym e) (steps-follow S m k h n n 0 time x t P) in
+    (λ c made. let z : made + 0 ≡ made = omega arith in r .0 c made ∙ rw z, omega (arith, r .1), r .2)
+
 -- ---- a window
 
 module _ (M : Dynamics) (n : ℕ) (c : RunState) where
@@ -107,7 +123,7 @@ module _ (M : Dynamics) (n : ℕ) (c : RunState) where
   window-ok e f g h = rw (g, h)
 
 module _ (S : System) (m : List Float) (h : Float) (n k : ℕ) (x t norms : List Float) (p : Progress) (a : Advance) (x′ t′ : List Float)
-    (A : (c : RunState) (made : ℕ) → status (a .outcome) (with-steps (dim S) k c x′ t′ (a .time) (made + a .steps)) ≡ steps (dynamics S m h n) n (with-steps (dim S) k c x t (p .time) made)) where
+    (A : Stepped S m h n k (p .time) x t a x′ t′) where
   abbrev c₀ : RunState
   c₀ = run-state (dim S) k x t norms p
 
@@ -116,21 +132,21 @@ module _ (S : System) (m : List Float) (h : Float) (n k : ℕ) (x t norms : List
 
   -- a step refused
   pub window-16 : (q : Progress) (ε : LyapunovError) → q ≡ moved p (a .outcome) (a .time) (a .steps) → a .outcome ≡ Refused ε → status (q .outcome) (run-state (dim S) k x′ t′ norms q) ≡ window (dynamics S m h n) n c₀
-  window-16 q ε e v = rw (e, v) (sym (window-refused (dynamics S m h n) n c₀ (refused-by ε c₁) (sym (A c₀ (p .steps)) ∙ rw v)))
+  window-16 q ε e v = rw (e, v) (sym (window-refused (dynamics S m h n) n c₀ (refused-by ε c₁) (sym (A .0 c₀ (p .steps)) ∙ rw v)))
 
-  module _ (v : a .outcome ≡ Accepted) (d : ℕ) (δ : dim S ≡ d) (z : 0 < d) (g : k ≤ 16) (l : length t′ ≡ k * d) (w : length norms ≡ 32)
-      (r : Outcome) (t″ norms′ : List Float) (e : GramSchmidt.left r t″ norms′ ≡ orthonormalised t′ d norms) where
+  module _ (fit : Fitting S m h x t norms k) (lx : length x′ ≡ length x) (lt : length t′ ≡ length t) (v : a .outcome ≡ Accepted)
+      (r : Outcome) (t″ norms′ : List Float) (e : GramSchmidt.left r t″ norms′ ≡ orthonormalised t′ (length x′) norms) where
     stepped : steps (dynamics S m h n) n c₀ ≡ ok c₁
-    stepped = sym (A c₀ (p .steps)) ∙ rw v
+    stepped = sym (A .0 c₀ (p .steps)) ∙ rw v
+
+    z : 0 < dim S
+    z = rw (fit .state) (fit .some)
+
+    l : length t′ ≡ k * dim S
+    l = lt ∙ fit .tangents ∙ ap (λ (j : ℕ). k * j) (sym (fit .state))
 
     e′ : GramSchmidt.left r t″ norms′ ≡ orthonormalised t′ (dim S) norms
-    e′ = e ∙ ap (λ (j : ℕ). orthonormalised t′ j norms) (sym δ)
-
-    z′ : 0 < dim S
-    z′ = rw δ z
-
-    l′ : length t′ ≡ k * dim S
-    l′ = l ∙ ap (λ (j : ℕ). k * j) (sym δ)
+    e′ = e ∙ ap (λ (j : ℕ). orthonormalised t′ j norms) (lx ∙ sym (fit .state))
 
     -- a collapse
     collapsed : (ε : LyapunovError) → r ≡ Refused ε → refused (refused-by ε c₁) ≡ window (dynamics S m h n) n c₀
@@ -138,7 +154,7 @@ module _ (S : System) (m : List Float) (h : Float) (n k : ℕ) (x t norms : List
     collapsed ε f =
         sym
         (window-broken (dynamics S m h n) n c₀ c₁ (refused-by ε c₁) stepped
-        (collapsed-refused (basis (dim S) k t′ .collapse) c₁ (basis (dim S) k t′) ε (sym (ap reported f) ∙ reported-is (dim S) k t′ norms z′ g l′ w r t″ norms′ e′)))
+        (collapsed-refused (basis (dim S) k t′ .collapse) c₁ (basis (dim S) k t′) ε (sym (ap reported f) ∙ reported-is (dim S) k t′ norms z (fit .few) l (fit .norms) r t″ norms′ e′)))
 
     pub window-14 : (q : Progress) (ε : LyapunovError) → q ≡ moved p (Refused ε) (a .time) (a .steps) → r ≡ Refused ε → status (q .outcome) (run-state (dim S) k x′ t″ norms′ q) ≡ window (dynamics S m h n) n c₀
     window-14 q ε e f = rw e (collapsed ε f)
@@ -150,12 +166,12 @@ module _ (S : System) (m : List Float) (h : Float) (n k : ℕ) (x t norms : List
     counted-done faint f len e₅ =
         let b = basis (dim S) k t′ in
         let u : k + k - k ≡ k = omega arith in
-        let D = directions-are (dim S) k t′ norms z′ g l′ w r t″ norms′ e′ f in
-        let L = logs-are (dim S) k t′ norms z′ g l′ w r t″ norms′ e′ f in
-        let N = reports-are (dim S) k t′ norms z′ g l′ w r t″ norms′ e′ f in
+        let D = directions-are (dim S) k t′ norms z (fit .few) l (fit .norms) r t″ norms′ e′ f in
+        let L = logs-are (dim S) k t′ norms z (fit .few) l (fit .norms) r t″ norms′ e′ f in
+        let N = reports-are (dim S) k t′ norms z (fit .few) l (fit .norms) r t″ norms′ e′ f in
         let F : take k faint ≡ zip counted (take k (p .faint)) (b .reports) =
-        ap (take k) (e₅ ∙ rw u) ∙ updated-take counted (p .faint) (take k (drop k norms′)) k (reports-many (dim S) k t′ norms z′ g l′ w r t″ norms′ e′ f) len ∙ rw N in
-        sym (window-ok (dynamics S m h n) n c₀ c₁ (with-basis c₁ b) stepped (rw (whole (dim S) k t′ norms z′ g l′ w r t″ norms′ e′ f)) ∙ rw (D, L, N, F))
+        ap (take k) (e₅ ∙ rw u) ∙ updated-take counted (p .faint) (take k (drop k norms′)) k (reports-many (dim S) k t′ norms z (fit .few) l (fit .norms) r t″ norms′ e′ f) len ∙ rw N in
+        sym (window-ok (dynamics S m h n) n c₀ c₁ (with-basis c₁ b) stepped (rw (whole (dim S) k t′ norms z (fit .few) l (fit .norms) r t″ norms′ e′ f)) ∙ rw (D, L, N, F))
 
     pub window-done : (q u : Progress) → r ≡ Accepted → k ≤ length (p .faint) → q ≡ moved p (a .outcome) (a .time) (a .steps) → u ≡ with-faint q (updated counted (q .faint) (take (k + k - k) (drop k norms′)))
         → status (u .outcome) (run-state (dim S) k x′ t″ norms′ u) ≡ window (dynamics S m h n) n c₀

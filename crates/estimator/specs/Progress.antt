@@ -7,10 +7,9 @@ use lib.ListN.{length, take, drop, getD}
 use lib.Seq.{sets}
 use lib.Ieee.{Float}
 use lib.Ieee.Scale.{finite}
-use Rattle.error.specs.Refusal.{refusal}
+use Rattle.error.specs.Refusal.{refusal, reported}
 use Rattle.error.specs.declared.LyapunovError.{LyapunovError}
 use Rattle.error.specs.declared.Outcome.{Outcome}
-use Rattle.error.specs.declared.Outcome.the-variants.{Accepted, Refused}
 use Rattle.floats.specs.Vector.{chunks}
 use Rattle.system.specs.System.{dim, matrix-fits}
 use Rattle.floats.specs.Finite.{positive}
@@ -19,16 +18,12 @@ use Rattle.gram_schmidt.specs.GramSchmidt.{euclidean}
 use Rattle.benettin.specs.Run.{Dynamics, RunState, RunRefusal, Status, ok, refused, refused-at, Course, faint-or-not, row, accumulate}
 use Rattle.benettin.specs.Estimate.{dynamics}
 use Rattle.benettin.specs.Outputs.{flat-row, flat-rows}
+use Rattle.benettin.specs.Window.{status-of}
 use Rattle.benettin.specs.declared.BenettinConfig.{BenettinConfig}
 use Rattle.estimator.specs.declared.Progress.{Progress}
 
 abbrev pub dynamics-of : System → List Float → BenettinConfig → Dynamics
 dynamics-of S m c = dynamics S m (c .«step_size») (c .«steps_per_window»)
-
--- c with what steps change: the state, the directions, which lie one after the other, the time and the steps made
-abbrev pub with-steps : ℕ → ℕ → RunState → List Float → List Float → Float → ℕ → RunState
-with-steps d k c x t time made =
-    record { state = x; directions = chunks d k t; time = time; steps = made; finished = c .finished; logs = c .logs; reports = c .reports; sums = c .sums; faint = c .faint }
 
 -- what the slices of a run and its progress hold, with k directions of d entries; the logarithms and the squared lengths lie one after the other in `norms`
 abbrev pub run-state : ℕ → ℕ → List Float → List Float → List Float → Progress → RunState
@@ -50,8 +45,7 @@ refused-by e c = refused-at (refusal e .number) (refusal e .place) c
 
 -- how a run goes on by an outcome
 abbrev pub status : Outcome → RunState → Status
-status Accepted c = ok c
-status (Refused e) c = refused (refused-by e c)
+status v c = status-of (reported v) c
 
 -- p after so many steps more, by an outcome, at another time
 abbrev pub moved : Progress → Outcome → Float → ℕ → Progress
@@ -92,17 +86,6 @@ pub record Room (made seen done : ℕ) (p : Progress) : Type 0 where
   pub steps : p .steps + made < 2 ^ 64
   pub windows : p .windows + done < 2 ^ 32
   pub faint : (i : ℕ) → getD (p .faint) i 0 + seen < 2 ^ 64
-
--- what a step needs: a system, a matrix, a step size, a time, a state and k directions that fit together
-pub record Stepping (S : System) (m : List Float) (h time : Float) (x t : List Float) (k : ℕ) : Type 0 where
-  pub matrix : matrix-fits S m ≡ true
-  pub size : positive h ≡ true
-  pub clock : finite time ≡ true
-  pub state : dim S ≡ length x
-  pub some : 0 < length x
-  pub small : length x ≤ 16
-  pub tangents : length t ≡ k * length x
-  pub few : k ≤ 16
 
 -- what fits together: a system, a matrix, a step size, a state, k directions and the numbers that come with them
 pub record Fitting (S : System) (m : List Float) (h : Float) (x t numbers : List Float) (k : ℕ) : Type 0 where

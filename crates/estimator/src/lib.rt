@@ -11,7 +11,7 @@ ghost use mathlib.Core.Path.{_≡_};
 ghost use Prim.Native.Nat.{ℕ, _+_, _*_, _≤_, _<_, _^_};
 ghost use mathlib.Core.Bool.{true};
 ghost use mathlib.Core.List.{_∷_, _++_, map};
-ghost use lib.ListN.{length, take, drop, getD, replicate};
+ghost use lib.ListN.{length, take, getD};
 ghost use lib.Ieee.Scale.{finite};
 ghost use Rattle.floats.specs.Arithmetic.{_⊕_, _⊗_, _⊘_};
 ghost use Rattle.system.specs.System.{dim};
@@ -27,13 +27,6 @@ use error::LyapunovError;
 use error::Outcome;
 use system::System;
 
-// What the steps of a window come to: how many were made, and the time after them.
-pub struct Advance {
-    pub outcome: Outcome,
-    pub time: f64,
-    pub steps: u64,
-}
-
 // What a run carries from window to window, beside the state, the directions and their numbers.
 pub struct Progress {
     pub outcome: Outcome,
@@ -42,57 +35,6 @@ pub struct Progress {
     pub time: f64,
     pub faint: [u64; 16],
     pub sums: [f64; 16],
-}
-
-// The steps of one window.
-fn advance_window(
-    system: System,
-    matrix: &[f64],
-    state: &mut [f64],
-    tangents: &mut [f64],
-    config: BenettinConfig,
-    start: f64,
-) -> Advance
-    requires { ⌜ Under.Stepping system (now matrix) (config .«step_size») start (now state) (now tangents) (config .«top_k») ⌝ }
-    ensures { λ r. ⌜ ((c : Run.RunState) (made : ℕ) → Under.status (r .outcome) (Under.with-steps (dim system) (config .«top_k») c (now (state .exit)) (now (tangents .exit)) (r .time) (made + r .steps))
-        ≡ Run.steps (Under.dynamics-of system (now (matrix .entry)) config) (config .«steps_per_window») (Under.with-steps (dim system) (config .«top_k») c (now (state .entry)) (now (tangents .entry)) start made))
-        × (r .steps ≤ config .«steps_per_window») × (finite (r .time) ≡ true) ⌝ }
-{
-    let mut time = start;
-    let mut i: u64 = 0;
-    while i < config.steps_per_window {
-        if let Outcome::Refused(e) = rk4::step(
-            system,
-            matrix,
-            time,
-            state,
-            tangents,
-            config.top_k,
-            config.step_size,
-        ) {
-            return Advance {
-                outcome: Outcome::Refused(e),
-                time,
-                steps: i,
-            };
-        }
-        let next = time + config.step_size;
-        if floats::is_finite(next) {
-            time = next;
-            i += 1;
-        } else {
-            return Advance {
-                outcome: Outcome::Refused(LyapunovError::InvalidTime),
-                time,
-                steps: i,
-            };
-        }
-    }
-    Advance {
-        outcome: Outcome::Accepted,
-        time,
-        steps: i,
-    }
 }
 
 // The progress after so many steps more, at another time.
@@ -203,7 +145,7 @@ fn window(
         ≡ Run.window (Under.dynamics-of system (now (matrix .entry)) config) (config .«steps_per_window») (Under.run-state (dim system) (config .«top_k») (now (state .entry)) (now (tangents .entry)) (now (norms .entry)) from))
         × Under.Within (config .«top_k») (config .«steps_per_window») 1 0 from r ⌝ }
 {
-    let a = advance_window(system, matrix, state, tangents, config, from.time);
+    let a = benettin::window::advance_window(system, matrix, state, tangents, config, from.time);
     let v = a.outcome;
     let q = moved(from, v, a.time, a.steps);
     let Outcome::Accepted = v else {
@@ -277,7 +219,7 @@ fn measured_window(
     p
 }
 
-// The measured windows: each is lent its row of the rows slice.
+// The measured windows, if nothing is refused yet: each is lent its row of the rows slice.
 fn measure(
     system: System,
     matrix: &[f64],
@@ -289,10 +231,10 @@ fn measure(
     from: Progress,
 ) -> Progress
     requires { ⌜ Under.Fitting system (now matrix) (config .«step_size») (now state) (now tangents) (now norms) (config .«top_k»)
-        × Under.Room (config .windows * config .«steps_per_window») (config .windows) (config .windows) from × (from .outcome ≡ Outcome.Accepted)
+        × Under.Room (config .windows * config .«steps_per_window») (config .windows) (config .windows) from
         × (config .windows * (1 + 2 * config .«top_k») ≤ length (now rows)) × (config .«steps_per_window» < 2 ^ 32) ⌝ }
     ensures { λ r. ⌜ (Under.recorded (now (rows .exit)) (Under.status (r .outcome) (Under.run-state (dim system) (config .«top_k») (now (state .exit)) (now (tangents .exit)) (now (norms .exit)) r))
-        ≡ Under.written (now (rows .entry)) 0 (Run.measured (Under.dynamics-of system (now (matrix .entry)) config) (config .«steps_per_window») (config .windows) (Under.run-state (dim system) (config .«top_k») (now (state .entry)) (now (tangents .entry)) (now (norms .entry)) from)))
+        ≡ Under.written (now (rows .entry)) 0 (Run.measured-from (Under.dynamics-of system (now (matrix .entry)) config) (config .«steps_per_window») (config .windows) (Under.status (from .outcome) (Under.run-state (dim system) (config .«top_k») (now (state .entry)) (now (tangents .entry)) (now (norms .entry)) from))))
         × Under.Within (config .«top_k») (config .windows * config .«steps_per_window») (config .windows) (config .windows) from r ⌝ }
 {
     let width = 1 + 2 * config.top_k;
@@ -300,6 +242,10 @@ fn measure(
     let mut w: u64 = 0;
     let mut a = 0;
     while w < config.windows {
+        let v = p.outcome;
+        let Outcome::Accepted = v else {
+            return p;
+        };
         let e = a + width;
         p = measured_window(
             system,
@@ -311,10 +257,6 @@ fn measure(
             config,
             p,
         );
-        let v = p.outcome;
-        let Outcome::Accepted = v else {
-            return p;
-        };
         w += 1;
         a = e;
     }
@@ -365,32 +307,6 @@ fn prepare(
     } else {
         fresh(Outcome::Refused(LyapunovError::InvalidWindowDuration), time)
     }
-}
-
-// The whole run, with its rows.
-fn measured_run(
-    system: System,
-    matrix: &[f64],
-    time: f64,
-    state: &mut [f64],
-    tangents: &mut [f64],
-    norms: &mut [f64],
-    rows: &mut [f64],
-    config: BenettinConfig,
-) -> Progress
-    requires { ⌜ Under.Fitting system (now matrix) (config .«step_size») (now state) (now tangents) (now norms) (config .«top_k»)
-        × (config .«steps_per_window» ≤ Estimate.limit) × (config .«transient_windows» ≤ Estimate.limit) × (config .windows ≤ Estimate.limit)
-        × (config .windows * (1 + 2 * config .«top_k») ≤ length (now rows)) × (finite time ≡ true) ⌝ }
-    ensures { λ r. ⌜ (Under.recorded (now (rows .exit)) (Under.status (r .outcome) (Under.run-state (dim system) (config .«top_k») (now (state .exit)) (now (tangents .exit)) (now (norms .exit)) r))
-        ≡ Under.written (now (rows .entry)) 0 (Start.course-of system (now (matrix .entry)) config (now (state .entry)) time))
-        × (drop (config .«top_k») (r .faint) ≡ drop (config .«top_k») (replicate 16 0)) × (length (r .faint) ≡ 16) × (length (r .sums) ≡ 16) ⌝ }
-{
-    let ready = prepare(system, matrix, time, state, tangents, norms, config);
-    let v = ready.outcome;
-    let Outcome::Accepted = v else {
-        return ready;
-    };
-    measure(system, matrix, state, tangents, norms, rows, config, ready)
 }
 
 fn copy_to(out: &mut [f64], from: &[f64])
@@ -470,15 +386,16 @@ fn run(
         (Start.answered (Under.dynamics-of system (now (matrix .entry)) config) (config .windows) (config .«top_k») (Start.course-of system (now (matrix .entry)) config (now (state .entry)) time)) ⌝ }
 {
     let mut norms = [0.0; 32];
-    let done = measured_run(
+    let ready = prepare(system, matrix, time, state, tangents, &mut norms, config);
+    let done = measure(
         system,
         matrix,
-        time,
         state,
         tangents,
         &mut norms,
         rows,
         config,
+        ready,
     );
     close(state, config, exponents, final_state, done)
 }
