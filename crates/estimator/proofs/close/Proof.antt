@@ -9,6 +9,13 @@ use Rattle.estimator.proofs.Closing.{close-stop, close-done}
 use Rattle.estimator.proofs.close.Statement.{statement}
 use Rattle.estimator.proofs.close.Tie as tie
 
+-- the start, and the duration, that are before a place in the code
+abbrev start : tie.After-duration → tie.Start
+start c = c .before .before .before .before .before .before
+
+abbrev timed : tie.After-write-rates → tie.After-duration
+timed c = c .before .before .before .before .before
+
 sums-fit : (c : tie.Start) → c .args .config .«top_k» ≤ length (c .args .done .sums)
 sums-fit c = omega (arith, c .pre .0, c .pre .5)
 
@@ -36,25 +43,25 @@ slice-relend-prefix-write-rates : tie.Need-slice-relend-prefix-write-rates
 slice-relend-prefix-write-rates c = search needs
 
 slice-aggregate-write-rates : tie.Need-slice-aggregate-write-rates
-slice-aggregate-write-rates c = sym (length-take-le _ _ (c .before .before .before .before .before .before .before .before .before .pre .1))
+slice-aggregate-write-rates c = sym (length-take-le _ _ (start (c .before .before .before) .pre .1))
 
 array-share-prefix-sums : tie.Need-array-share-prefix-sums
 array-share-prefix-sums c = search needs
 
 slice-aggregate-write-rates-2 : tie.Need-slice-aggregate-write-rates-2
-slice-aggregate-write-rates-2 c = sym (length-take-le _ _ (sums-fit (c .before .before .before .before .before .before .before .before .before .before)))
+slice-aggregate-write-rates-2 c = sym (length-take-le _ _ (sums-fit (start (c .before .before .before .before))))
 
 write-rates-requires : tie.Need-write-rates-requires
-write-rates-requires c κs = length-take-le _ _ (c .before .before .before .before .before .before .before .before .before .before .pre .1) ∙ sym (length-take-le _ _ (sums-fit (c .before .before .before .before .before .before .before .before .before .before)))
+write-rates-requires c κs = let s = start (c .before .before .before .before) in length-take-le _ _ (s .pre .1) ∙ sym (length-take-le _ _ (sums-fit s))
 
 slice-relend-prefix-copy-to : tie.Need-slice-relend-prefix-copy-to
 slice-relend-prefix-copy-to c = search needs
 
 slice-aggregate-copy-to : tie.Need-slice-aggregate-copy-to
-slice-aggregate-copy-to c = sym (length-take-le _ _ (c .before .before .before .before .before .before .before .before .before .before .before .before .before .before .pre .2))
+slice-aggregate-copy-to c = sym (length-take-le _ _ (start (timed (c .before .before .before)) .pre .2))
 
 copy-to-requires : tie.Need-copy-to-requires
-copy-to-requires c κs = length-take-le _ _ (c .before .before .before .before .before .before .before .before .before .before .before .before .before .before .pre .2)
+copy-to-requires c κs = length-take-le _ _ (start (timed (c .before .before .before)) .pre .2)
 
 same-length : tie.Need-same-length
 same-length c = search needs
@@ -64,14 +71,16 @@ same-length-2 c = search needs
 
 returns-2 : tie.Need-returns-2
 returns-2 c =
-    let a = c .before .before .before .before .before .before .before .before .before .before .before .before .before .before .before .before .before .before .args in
-    let p = c .before .before .before .before .before .before .before .before .before .before .before .before .before .before .before .before .before .before .pre in
-    let u = c .before .before .before .before .before .before .before .before .before .before .before .before .duration in
-    let w = c .before .before .before .before .before .before .before .before .before .before .before .as-float in
-    let r = c .before .before .before .before .before .before .before .write-rates in
     let y = c .before .before .before .copy-to in
+    let b = c .before .before .before .before .before .before .before in
+    let r = b .write-rates in
+    let w = b .before .before .before .before .as-float in
+    let t = timed b in
+    let u = t .duration in
+    let a = start t .args in
+    let p = start t .pre in
     close-done _ (a .config .«top_k») (a .config .windows) (a .exponents .now) (a .final-state .now) (a .state .now) (a .done) (u .result) (w .result) (r .last .0) (y .last .0)
-    (c .before .before .before .before .before .before .before .before .before .before .before .before .before .enum-told .given .1) (u .ensures) (w .ensures) (p .1) (p .2) (p .5) (p .0) (r .ensures) (y .ensures)
+    (t .before .enum-told .given .1) (u .ensures) (w .ensures) (p .1) (p .2) (p .5) (p .0) (r .ensures) (y .ensures)
 
 pub close-spec : {M : Type 1} → statement M
 close-spec =

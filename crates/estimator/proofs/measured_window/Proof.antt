@@ -16,6 +16,13 @@ use Rattle.estimator.proofs.Loops.{room-less, turn-stop, measured-done,
 use Rattle.estimator.proofs.measured_window.Statement.{statement}
 use Rattle.estimator.proofs.measured_window.Tie as tie
 
+-- the calls before one that is made
+abbrev start : tie.After-window → tie.Start
+start c = c .before .before .before .before .before .before .before .before .before
+
+abbrev windowed : tie.After-add-logs → tie.After-window
+windowed c = c .before .before .before .before .before .before .before .before .before .before
+
 abbrev M : tie.Start → Dynamics
 M c = dynamics-of (c .args .system) (c .args .matrix .now) (c .args .config)
 
@@ -26,25 +33,25 @@ by-definition c =
     Run.window (M c) (a .config .«steps_per_window») (run-state (dim (a .system)) (a .config .«top_k») (a .state .now) (a .tangents .now) (a .norms .now) (a .from))
 
 abbrev by-code : tie.After-window → RunState
-by-code c = let a = c .before .before .before .before .before .before .before .before .before .args in let o = c .window in run-state (dim (a .system)) (a .config .«top_k») (o .last .1 .1 .0) (o .last .1 .1 .1 .0) (o .last .1 .1 .1 .1 .0) (o .result)
+by-code c = let a = start c .args in let o = c .window in run-state (dim (a .system)) (a .config .«top_k») (o .last .1 .1 .0) (o .last .1 .1 .1 .0) (o .last .1 .1 .1 .1 .0) (o .result)
 
 norms-many : (c : tie.After-window) → length (c .window .last .1 .1 .1 .1 .0) ≡ 32
-norms-many c = c .window .kept .1 .1 .1 .1 .0 ∙ c .before .before .before .before .before .before .before .before .before .pre .0 .norms
+norms-many c = c .window .kept .1 .1 .1 .1 .0 ∙ start c .pre .0 .norms
 
 sums-many : (c : tie.After-window) → length (c .window .result .sums) ≡ 16
-sums-many c = c .window .ensures .1 .totals ∙ c .before .before .before .before .before .before .before .before .before .pre .1 .totals
+sums-many c = c .window .ensures .1 .totals ∙ start c .pre .1 .totals
 
-few : (c : tie.After-window) → c .before .before .before .before .before .before .before .before .before .args .config .«top_k» ≤ length (c .window .last .1 .1 .1 .1 .0)
-few c = omega (arith, norms-many c, c .before .before .before .before .before .before .before .before .before .pre .0 .few)
+few : (c : tie.After-window) → start c .args .config .«top_k» ≤ length (c .window .last .1 .1 .1 .1 .0)
+few c = omega (arith, norms-many c, start c .pre .0 .few)
 
-logs-many : (c : tie.After-window) → length (take (c .before .before .before .before .before .before .before .before .before .args .config .«top_k») (c .window .last .1 .1 .1 .1 .0)) ≡ c .before .before .before .before .before .before .before .before .before .args .config .«top_k»
+logs-many : (c : tie.After-window) → length (take (start c .args .config .«top_k») (c .window .last .1 .1 .1 .1 .0)) ≡ start c .args .config .«top_k»
 logs-many c = length-take-le _ _ (few c)
 
 totals : (c : tie.After-add-logs) → length (c .add-logs .result .sums) ≡ 16
-totals c = ap (λ (p : Progress). length (p .sums)) (c .add-logs .ensures) ∙ updated-length (_⊕_) _ _ ∙ sums-many (c .before .before .before .before .before .before .before .before .before .before)
+totals c = ap (λ (p : Progress). length (p .sums)) (c .add-logs .ensures) ∙ updated-length (_⊕_) _ _ ∙ sums-many (windowed c)
 
 window-requires : tie.Need-window-requires
-window-requires c κs = let a = c .before .before .before .before .before .before .before .before .args in (c .before .before .before .before .before .before .before .before .pre .0, room-less (a .config .«steps_per_window») 1 1 0 (a .from) (c .before .before .before .before .before .before .before .before .pre .1) (omega arith))
+window-requires c κs = let b = c .before .before .before .before .before .before .before .before in (b .pre .0, room-less (b .args .config .«steps_per_window») 1 1 0 (b .args .from) (b .pre .1) (omega arith))
 
 enum-told : tie.Need-enum-told
 enum-told c = search needs
@@ -63,11 +70,10 @@ same-length-3 c = search needs
 
 returns : tie.Need-returns
 returns c =
-    let a = c .before .before .before .before .before .before .before .before .before .before .before .before .before .before .before .before .before .args in
-    let o = c .before .before .before .before .before .before .before .before .window in (
-      turn-stop (M (c .before .before .before .before .before .before .before .before .before .before .before .before .before .before .before .before .before)) (a .row .now) (by-definition (c .before .before .before .before .before .before .before .before .before .before .before .before .before .before .before .before .before)) (by-code (c .before .before .before .before .before .before .before .before)) (o .result .outcome) (o .ensures .0) _ (c .enum-told2 .given .1),
-      within-more (a .config .«top_k») (a .config .«steps_per_window») (a .from) (o .result) (o .ensures .1),
-    )
+    let b = c .before .before .before .before .before .before .before .before in
+    let a = start b .args in
+    let o = b .window in
+    (turn-stop (M (start b)) (a .row .now) (by-definition (start b)) (by-code b) (o .result .outcome) (o .ensures .0) _ (c .enum-told2 .given .1), within-more (a .config .«top_k») (a .config .«steps_per_window») (a .from) (o .result) (o .ensures .1))
 
 slice-reshare-prefix-add-logs : tie.Need-slice-reshare-prefix-add-logs
 slice-reshare-prefix-add-logs c = few (c .before .before .before .before .before .before .before .before)
@@ -77,25 +83,27 @@ slice-aggregate-add-logs c = sym (logs-many (c .before .before .before .before .
 
 add-logs-requires : tie.Need-add-logs-requires
 add-logs-requires c κs =
-    (omega (arith, logs-many (c .before .before .before .before .before .before .before .before .before), c .before .before .before .before .before .before .before .before .before .before .before .before .before .before .before .before .before .before .pre .0 .few), omega (arith, c .before .before .before .before .before .before .before .before .before .window .ensures .1 .windows, c .before .before .before .before .before .before .before .before .before .before .before .before .before .before .before .before .before .before .pre .1 .windows), sums-many (c .before .before .before .before .before .before .before .before .before))
+    let b = c .before .before .before .before .before .before .before .before .before in
+    (omega (arith, logs-many b, start b .pre .0 .few), omega (arith, b .window .ensures .1 .windows, start b .pre .1 .windows), sums-many b)
 
 duration-requires : tie.Need-duration-requires
 duration-requires c κs = search needs
 
 as-float-requires : tie.Need-as-float-requires
-as-float-requires c κs =
-    omega (arith, ap (λ (p : Progress). p .windows) (c .before .add-logs .ensures), c .before .before .before .before .before .before .before .before .before .before .before .window .ensures .1 .windows, c .before .before .before .before .before .before .before .before .before .before .before .before .before .before .before .before .before .before .before .before .pre .1 .windows)
+as-float-requires c κs = let b = windowed (c .before) in omega (arith, ap (λ (p : Progress). p .windows) (c .before .add-logs .ensures), b .window .ensures .1 .windows, start b .pre .1 .windows)
 
 slice-reshare-prefix-write-row : tie.Need-slice-reshare-prefix-write-row
-slice-reshare-prefix-write-row c = few (c .before .before .before .before .before .before .before .before .before .before .before .before .before)
+slice-reshare-prefix-write-row c = few (windowed (c .before .before .before))
 
 slice-aggregate-write-row : tie.Need-slice-aggregate-write-row
-slice-aggregate-write-row c = sym (logs-many (c .before .before .before .before .before .before .before .before .before .before .before .before .before .before))
+slice-aggregate-write-row c = sym (logs-many (windowed (c .before .before .before .before)))
 
 write-row-requires : tie.Need-write-row-requires
 write-row-requires c κs =
-    let e = logs-many (c .before .before .before .before .before .before .before .before .before .before .before .before .before .before) in
-    (c .before .before .before .before .before .before .before .before .before .before .before .before .before .before .before .before .before .before .before .before .before .before .before .pre .2 ∙ rw e, rw e (c .before .before .before .before .before .before .before .before .before .before .before .before .before .before .before .before .before .before .before .before .before .before .before .pre .0 .few), totals (c .before .before .before .before))
+    let l = c .before .before .before .before in
+    let p = start (windowed l) .pre in
+    let e = logs-many (windowed l) in
+    (p .2 ∙ rw e, rw e (p .0 .few), totals l)
 
 same-length-4 : tie.Need-same-length-4
 same-length-4 c = search needs
@@ -111,20 +119,22 @@ same-length-7 c = search needs
 
 returns-2 : tie.Need-returns-2
 returns-2 c =
-    let a = c .before .before .before .before .before .before .before .before .before .before .before .before .before .before .before .before .before .before .before .before .before .before .before .before .before .before .args in
-    let f = c .before .before .before .before .before .before .before .before .before .before .before .before .before .before .before .before .before .before .before .before .before .before .before .before .before .before .pre .0 .few in
-    let o = c .before .before .before .before .before .before .before .before .before .before .before .before .before .before .before .before .before .window in
-    let s = c .before .before .before .before .before .before .before .add-logs in
+    let l = c .before .before .before .before .before .before .before in
+    let b = windowed l in
+    let a = start b .args in
+    let g = a .config in
+    let f = start b .pre .0 .few in
+    let o = b .window in
+    let s = l .add-logs in
     let u = c .before .before .before .before .before .before .duration in
     let w = c .before .before .before .before .before .as-float in
     let r = c .before .before .write-row in
     let x = o .last .1 .1 .0 in
     let t = o .last .1 .1 .1 .0 in
     let n = o .last .1 .1 .1 .1 .0 in (
-      measured-done (a .system) (a .matrix .now) (a .config .«step_size») (a .config .«steps_per_window») (a .config .«top_k») x t n (o .result) (norms-many (c .before .before .before .before .before .before .before .before .before .before .before .before .before .before .before .before .before)) f (sums-many (c .before .before .before .before .before .before .before .before .before .before .before .before .before .before .before .before .before))
-          (s .result) (by-definition (c .before .before .before .before .before .before .before .before .before .before .before .before .before .before .before .before .before .before .before .before .before .before .before .before .before .before)) (a .row .now) (r .last .0) (u .result) (w .result) (s .ensures) (o .ensures .0) (c .before .before .before .before .before .before .before .before .before .enum-told .given .1) (u .ensures) (w .ensures) (r .ensures),
-      within-added (a .system) (a .matrix .now) (a .config .«step_size») (a .config .«steps_per_window») (a .config .«top_k») x t n (o .result) (norms-many (c .before .before .before .before .before .before .before .before .before .before .before .before .before .before .before .before .before)) f (sums-many (c .before .before .before .before .before .before .before .before .before .before .before .before .before .before .before .before .before))
-          (a .config .«steps_per_window») (a .from) (s .result) (s .ensures) (o .ensures .1),
+      measured-done (a .system) (a .matrix .now) (g .«step_size») (g .«steps_per_window») (g .«top_k») x t n (o .result) (norms-many b) f (sums-many b) (s .result) (by-definition (start b)) (a .row .now) (r .last .0) (u .result) (w .result)
+          (s .ensures) (o .ensures .0) (l .before .before .enum-told .given .1) (u .ensures) (w .ensures) (r .ensures),
+      within-added (a .system) (a .matrix .now) (g .«step_size») (g .«steps_per_window») (g .«top_k») x t n (o .result) (norms-many b) f (sums-many b) (g .«steps_per_window») (a .from) (s .result) (s .ensures) (o .ensures .1),
     )
 
 pub measured-window-spec : {M : Type 1} → statement M

@@ -23,29 +23,37 @@ Inv-loop system matrix state₀ tangents₀ norms₀ config p₀ w₀ state tang
 abbrev μ-loop : tie.MeasureT-loop
 μ-loop system matrix state₀ tangents₀ norms₀ config p₀ w₀ state tangents norms p w = config .«transient_windows» - w
 
+-- the start, and the turn, that are before a place in the code
+abbrev start : tie.At-loop Inv-loop μ-loop → tie.Start Inv-loop μ-loop
+start c = c .before .before .before .before .before
+
+abbrev turn : tie.After-window Inv-loop μ-loop → tie.At-loop Inv-loop μ-loop
+turn c = c .before .before .before .before .before .before
+
 abbrev M : tie.Start Inv-loop μ-loop → Dynamics
 M c = dynamics-of (c .args .system) (c .args .matrix .now) (c .args .config)
 
 -- where a turn starts, and where its window leads
 abbrev here : tie.At-loop Inv-loop μ-loop → RunState
-here c = let a = c .before .before .before .before .before .args in run-state (dim (a .system)) (a .config .«top_k») (c .loop .state) (c .loop .tangents) (c .loop .norms) (c .loop .p)
+here c = let a = start c .args in run-state (dim (a .system)) (a .config .«top_k») (c .loop .state) (c .loop .tangents) (c .loop .norms) (c .loop .p)
 
 abbrev there : tie.After-window Inv-loop μ-loop → RunState
-there c = let a = c .before .before .before .before .before .before .before .before .before .before .before .args in let o = c .window in run-state (dim (a .system)) (a .config .«top_k») (o .last .1 .1 .0) (o .last .1 .1 .1 .0) (o .last .1 .1 .1 .1 .0) (o .result)
+there c = let a = start (turn c) .args in let o = c .window in run-state (dim (a .system)) (a .config .«top_k») (o .last .1 .1 .0) (o .last .1 .1 .1 .0) (o .last .1 .1 .1 .1 .0) (o .result)
 
 loop-holds : tie.Need-loop-holds Inv-loop μ-loop
 loop-holds c =
-    let a = c .before .before .before .before .args in
-    let p = c .before .before .before .before .pre in
-    (omega arith, refl, refl, refl, p .2, within-start (a .config .«top_k») (a .config .«steps_per_window») (a .from) (p .1 .clock), warm-start (M (c .before .before .before .before)) (a .config .«steps_per_window») (a .config .«transient_windows») 0 _)
+    let s = c .before .before .before .before in
+    let g = s .args .config in
+    (omega arith, refl, refl, refl, s .pre .2, within-start (g .«top_k») (g .«steps_per_window») (s .args .from) (s .pre .1 .clock), warm-start (M s) (g .«steps_per_window») (g .«transient_windows») 0 _)
 
 window-requires : tie.Need-window-requires Inv-loop μ-loop
 window-requires c κs =
-    let a = c .before .before .before .before .before .before .before .before .before .before .args in
-    let p = c .before .before .before .before .before .before .before .before .before .before .pre in
-    let l = c .before .before .before .before .before .loop in (
-      fitting-kept _ _ _ (p .0) (l .inv .1) (l .inv .2) (l .inv .3),
-      room-next (a .config .«top_k») (l .w) (a .config .«steps_per_window») 0 0 (a .config .«transient_windows») 0 (a .from) (l .p) (p .1) (l .inv .5) (c .before .before .before .if1 .taken) (omega arith),
+    let t = c .before .before .before .before .before in
+    let l = t .loop in
+    let s = start t in
+    let g = s .args .config in (
+      fitting-kept _ _ _ (s .pre .0) (l .inv .1) (l .inv .2) (l .inv .3),
+      room-next (g .«top_k») (l .w) (g .«steps_per_window») 0 0 (g .«transient_windows») 0 (s .args .from) (l .p) (s .pre .1) (l .inv .5) (c .before .before .before .if1 .taken) (omega arith),
     )
 
 enum-told : tie.Need-enum-told Inv-loop μ-loop
@@ -65,12 +73,15 @@ same-length-3 c = search needs
 
 returns : tie.Need-returns Inv-loop μ-loop
 returns c =
-    let g = c .before .before .before .before .before .before .before .before .before .before .before .before .before .before .before .before .before .before .before .args .config in
-    let f = c .before .before .before .before .before .before .before .before .before .before .before .before .before .before .before .before .before .before .before .args .from in
-    let l = c .before .before .before .before .before .before .before .before .before .before .before .before .before .before .loop in
-    let o = c .before .before .before .before .before .before .before .before .window in (
-      sym (warm-stop (M (c .before .before .before .before .before .before .before .before .before .before .before .before .before .before .before .before .before .before .before)) (g .«steps_per_window») (g .«transient_windows») (l .w) (here (c .before .before .before .before .before .before .before .before .before .before .before .before .before .before)) (there (c .before .before .before .before .before .before .before .before)) (o .result .outcome) _ (c .before .before .before .before .before .before .before .before .before .before .before .before .if1 .taken) (o .ensures .0) (c .enum-told2 .given .1)) ∙ l .inv .6,
-      within-up (g .«top_k») (l .w + 1) (g .«steps_per_window») 0 (g .«transient_windows») 0 f (o .result) (omega arith) (omega arith) (within-next (g .«top_k») (l .w) (g .«steps_per_window») 0 0 f (l .p) (o .result) (l .inv .5) (o .ensures .1)),
+    let b = c .before .before .before .before .before .before .before .before in
+    let t = turn b in
+    let l = t .loop in
+    let s = start t in
+    let g = s .args .config in
+    let o = b .window in (
+      sym (warm-stop (M s) (g .«steps_per_window») (g .«transient_windows») (l .w) (here t) (there b) (o .result .outcome) _ (b .before .before .before .before .if1 .taken) (o .ensures .0) (c .enum-told2 .given .1)) ∙ l .inv .6,
+      within-up (g .«top_k») (l .w + 1) (g .«steps_per_window») 0 (g .«transient_windows») 0 (s .args .from) (o .result) (omega arith) (omega arith)
+          (within-next (g .«top_k») (l .w) (g .«steps_per_window») 0 0 (s .args .from) (l .p) (o .result) (l .inv .5) (o .ensures .1)),
     )
 
 add-w : tie.Need-add-w Inv-loop μ-loop
@@ -81,17 +92,19 @@ loop-less c = search needs
 
 loop-again : tie.Need-loop-again Inv-loop μ-loop
 loop-again c =
-    let g = c .before .before .before .before .before .before .before .before .before .before .before .before .before .before .before .before .before .before .before .args .config in
-    let f = c .before .before .before .before .before .before .before .before .before .before .before .before .before .before .before .before .before .before .before .args .from in
-    let l = c .before .before .before .before .before .before .before .before .before .before .before .before .before .before .loop in
-    let o = c .before .before .before .before .before .before .before .before .window in (
+    let b = c .before .before .before .before .before .before .before .before in
+    let t = turn b in
+    let l = t .loop in
+    let s = start t in
+    let g = s .args .config in
+    let o = b .window in (
       omega arith,
       o .kept .1 .1 .0 ∙ l .inv .1,
       o .kept .1 .1 .1 .0 ∙ l .inv .2,
       o .kept .1 .1 .1 .1 .0 ∙ l .inv .3,
       c .enum-told .given .1,
-      within-next (g .«top_k») (l .w) (g .«steps_per_window») 0 0 f (l .p) (o .result) (l .inv .5) (o .ensures .1),
-      sym (warm-next (M (c .before .before .before .before .before .before .before .before .before .before .before .before .before .before .before .before .before .before .before)) (g .«steps_per_window») (g .«transient_windows») (l .w) (here (c .before .before .before .before .before .before .before .before .before .before .before .before .before .before)) (there (c .before .before .before .before .before .before .before .before)) (o .result .outcome) (c .before .before .before .before .before .before .before .before .before .before .before .before .if1 .taken) (o .ensures .0) (c .enum-told .given .1)) ∙ l .inv .6,
+      within-next (g .«top_k») (l .w) (g .«steps_per_window») 0 0 (s .args .from) (l .p) (o .result) (l .inv .5) (o .ensures .1),
+      sym (warm-next (M s) (g .«steps_per_window») (g .«transient_windows») (l .w) (here t) (there b) (o .result .outcome) (b .before .before .before .before .if1 .taken) (o .ensures .0) (c .enum-told .given .1)) ∙ l .inv .6,
     )
 
 same-length-4 : tie.Need-same-length-4 Inv-loop μ-loop
@@ -105,11 +118,12 @@ same-length-6 c = search needs
 
 returns-2 : tie.Need-returns-2 Inv-loop μ-loop
 returns-2 c =
-    let g = c .before .before .before .before .before .before .before .args .config in
-    let f = c .before .before .before .before .before .before .before .args .from in
-    let l = c .before .before .loop in (
-      sym (warm-end (M (c .before .before .before .before .before .before .before)) (g .«steps_per_window») (g .«transient_windows») (l .w) (here (c .before .before)) (l .p .outcome) (c .if1 .left) (l .inv .4)) ∙ l .inv .6,
-      within-up (g .«top_k») (l .w) (g .«steps_per_window») 0 (g .«transient_windows») 0 f (l .p) (l .inv .0) (omega arith) (l .inv .5),
+    let t = c .before .before in
+    let l = t .loop in
+    let s = start t in
+    let g = s .args .config in (
+      sym (warm-end (M s) (g .«steps_per_window») (g .«transient_windows») (l .w) (here t) (l .p .outcome) (c .if1 .left) (l .inv .4)) ∙ l .inv .6,
+      within-up (g .«top_k») (l .w) (g .«steps_per_window») 0 (g .«transient_windows») 0 (s .args .from) (l .p) (l .inv .0) (omega arith) (l .inv .5),
     )
 
 pub warm-up-spec : {M : Type 1} → statement M
