@@ -41,9 +41,12 @@ module _ (c : tie.After-enum-told) where
   entries : k * d ≤ 256
   entries = few-entries k d (known .0 .directions) (known .0 .small)
 
--- the front of the array that the state was copied to
-copied : (c : tie.After-copy-to) (z : List Float) → take (length (c .before .before .before .before .before .before .before .before .before .before .before .args .state .now)) (c .copy-to .last .0 ++ z) ≡ c .before .before .before .before .before .before .before .before .before .before .before .args .state .now
-copied c z = front (c .before .before .before .before .before .before .before .before .before .before .before .args .state .now) (c .copy-to .last .0) z (c .copy-to .ensures)
+-- the tests that are before the copy of the state, and the front of the array that it was copied to
+abbrev tested : tie.After-copy-to → tie.After-enum-told
+tested c = c .before .before .before
+
+copied : (c : tie.After-copy-to) (z : List Float) → (let x = s (tested c) .args .state .now in take (length x) (c .copy-to .last .0 ++ z) ≡ x)
+copied c z = front (s (tested c) .args .state .now) (c .copy-to .last .0) z (c .copy-to .ensures)
 
 validate-requires : tie.Need-validate-requires
 validate-requires c κs = search needs
@@ -90,9 +93,10 @@ slice-aggregate-run-2 c = sym (length-take-le _ _ (entries (c .before .before .b
 
 run-requires : tie.Need-run-requires
 run-requires c κs =
-    let e = copied (c .before .before .before .before .before .before) _ in
-    let n = known (c .before .before .before .before .before .before .before .before .before) in
-    (ready-front _ _ _ _ _ _ _ _ _ _ e (n .0), length-take-le _ _ (entries (c .before .before .before .before .before .before .before .before .before)) ∙ rw e, n .1, n .2, rw e (n .3))
+    let b = c .before .before .before .before .before .before in
+    let e = copied b _ in
+    let n = known (tested b) in
+    (ready-front _ _ _ _ _ _ _ _ _ _ e (n .0), length-take-le _ _ (entries (tested b)) ∙ rw e, n .1, n .2, rw e (n .3))
 
 same-length : tie.Need-same-length
 same-length c = search needs
@@ -105,10 +109,11 @@ same-length-3 c = search needs
 
 returns-2 : tie.Need-returns-2
 returns-2 c =
-    let s = c .before .before .before .before .before .before .before .before .before .before .before .before .before .before .before .before .before .before .before .before .before .before .before .before .before .before in
-    let a = s .args in
-    run-by-tests (input-of s) (a .config .«top_k») (a .rows .now) (a .exponents .now) (a .final-state .now) _ _ (copied (c .before .before .before .before .before .before .before .before .before .before .before .before .before .before .before) _)
-    (passed (c .before .before .before .before .before .before .before .before .before .before .before .before .before .before .before .before .before .before) ∙ tests-are (input-of s) (a .config .«top_k») (a .rows .now) (a .exponents .now) (a .final-state .now)) (c .before .before .before .before .before .before .before .before .run .ensures)
+    let r = c .before .before .before .before .before .before .before .before in
+    let b = r .before .before .before .before .before .before .before in
+    let i = input-of (s (tested b)) in
+    let a = s (tested b) .args in
+    run-by-tests i (a .config .«top_k») (a .rows .now) (a .exponents .now) (a .final-state .now) _ _ (copied b _) (passed (tested b) ∙ tests-are i (a .config .«top_k») (a .rows .now) (a .exponents .now) (a .final-state .now)) (r .run .ensures)
 
 pub estimate-spectrum-at-spec : {M : Type 1} → statement M
 estimate-spectrum-at-spec =
