@@ -5,7 +5,7 @@ use native.Mathlib.Numerals.{add-one}
 use native.Mathlib.Omega.{arith}
 use mathlib.Core.Path.{_≡_, sym, ap, _∙_}
 use mathlib.Core.List.{List, _++_, map, append-nil, append-assoc}
-use lib.ListN.{length, take, drop, length-append, length-drop, length-map, drop-of-length-le}
+use lib.ListN.{length, take, drop, length-map, drop-of-length-le}
 use lib.Seq.{take-at, drop-at, drop-drop}
 use lib.Ieee.{Float}
 use Rattle.floats.specs.Vector.{part, chunks, concat}
@@ -42,9 +42,6 @@ module _ (G : List Float → List Float) (keeps : (v : List Float) → length (G
         let t : take (j * d) X ≡ all-by G d j l = rw (e, take-at (all-by G d j l) (drop (j * d) l) (j * d) n) in
         let r : drop k (drop (j * d) X) ≡ drop (j * d + d) l = rw (f, s) (drop-drop d (j * d) l) in
         rw (t, y, r, add-one, all-next j l, suc-mul j d) (sym (append-assoc (all-by G d j l) (G (part (j * d) d l)) (drop (j * d + d) l)))
-
-    pub put-length : j * d ≤ length l → length X ≡ length l
-    put-length h = rw (e, length-append (all-by G d j l) (drop (j * d) l), all-length j l h, length-drop (j * d) l) (omega arith)
 
     pub put-all : (n : ℕ) → j ≡ n → length l ≡ n * d → X ≡ all-by G d n l
     put-all n i h = let z : length l ≤ j * d = rw i (omega arith) in e ∙ rw (drop-of-length-le l z, i) (append-nil (all-by G d n l))

@@ -1,10 +1,10 @@
 -- Only the first entries of an array count: in a stage point, in the update, and in the fields and tangent maps.
 use Prim.Native.Nat.{ℕ, zero, suc, _-_, _≤_}
 use native.Mathlib.Omega.{arith}
-use mathlib.Core.Path.{_≡_, refl, ap, _∙_}
+use mathlib.Core.Path.{_≡_, refl, sym, ap, _∙_}
 use mathlib.Core.List.{List, [], _∷_, _++_, map}
 use lib.ListN.{length, take, drop, replicate}
-use lib.Seq.{take-append-le, take-at, take-take, getD-take}
+use lib.Seq.{take-append-le, take-take, getD-take, length-take-le}
 use lib.Ieee.{Float, nan}
 use Rattle.floats.specs.Arithmetic.{_⊕_, _⊗_, _⊘_, zero⁺, two, six}
 use Rattle.system.specs.System.{dim, field, tangent}
@@ -13,8 +13,8 @@ use Rattle.system.specs.declared.System.{System}
 use Rattle.system.specs.declared.System.the-variants.{Lorenz, Rossler, VanDerPol, Linear}
 use Rattle.rk4.specs.Stepper.{combine-stage, zip, sum₂, rk4-update}
 use Rattle.rk4.proofs.Padding.{in16-take}
-use Rattle.rk4.proofs.Product.{times-length, times-few}
-use Rattle.rk4.proofs.Stage.{double, front-length}
+use Rattle.rk4.proofs.Times.{times-length, times-few}
+use Rattle.rk4.proofs.Stage.{double, front-length, update-length}
 
 -- ---- a stage point
 
@@ -37,9 +37,6 @@ combine-front s b k p d w h g f =
     let L = combine-stage s (take w b) (take w k) in
     let n : length L ≡ w = front-length s b k w g in
     rw (f, take-append-le d L (replicate (16 - length L) zero⁺) (omega arith), combine-take d s (take w b) (take w k), take-take d w b h, take-take d w k h)
-
-pub into-front : (s : Float) (b k o p : List Float) (d : ℕ) → d ≤ length b → p ≡ combine-stage s (take d b) (take d k) ++ drop d o → take d p ≡ combine-stage s (take d b) (take d k)
-into-front s b k o p d h e = rw (e, take-at (combine-stage s (take d b) (take d k)) (drop d o) d (front-length s b k d h))
 
 -- ---- the update
 
@@ -70,6 +67,20 @@ update-few h k₁ k₂ k₃ k₄ v n e =
       map-take (λ x. two ⊗ x) n k₂,
       map-take (λ x. two ⊗ x) n k₃,
     )
+
+-- the front of what is updated: the whole, or a part of w entries
+pub update-front : (h : Float) (k₁ k₂ k₃ k₄ v ys : List Float) (n : ℕ) → n ≤ length v → ys ≡ rk4-update h (k₄ ∷ k₃ ∷ k₂ ∷ k₁ ∷ []) v → take n ys ≡ rk4-update h (k₄ ∷ k₃ ∷ k₂ ∷ k₁ ∷ []) (take n v)
+unfolding rk4-update
+update-front h k₁ k₂ k₃ k₄ v ys n e u =
+    let k = sum₂ (sum₂ (sum₂ k₁ (double k₂)) (double k₃)) k₄ in
+    rw u (combine-take n (h ⊘ six) v k ∙ sym (rw (length-take-le n v e) at (combine-few (h ⊘ six) (take n v) k)))
+
+pub part-front : (h : Float) (k₁ k₂ k₃ k₄ v ys : List Float) (n w : ℕ) → n ≤ w → w ≤ length v → ys ≡ rk4-update h (k₄ ∷ k₃ ∷ k₂ ∷ k₁ ∷ []) (take w v)
+    → take n (ys ++ drop w v) ≡ rk4-update h (k₄ ∷ k₃ ∷ k₂ ∷ k₁ ∷ []) (take n v)
+part-front h k₁ k₂ k₃ k₄ v ys n w g e u =
+    let l : length (take w v) ≡ w = length-take-le w v e in
+    let m : n ≤ length ys = rw (u, update-length h k₁ k₂ k₃ k₄ (take w v)) (omega arith) in
+    take-append-le n ys (drop w v) m ∙ update-front h k₁ k₂ k₃ k₄ (take w v) ys n (omega arith) u ∙ rw (take-take n w v g)
 
 -- ---- the fields and tangent maps
 

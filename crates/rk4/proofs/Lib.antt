@@ -1,7 +1,10 @@
 -- Laws, one subject a file.
 pub mod Stage
+pub mod Copy
 pub mod Padding
-pub mod Product
+pub mod Parts
+pub mod Times
+pub mod Columns
 pub mod Few
 pub mod Moves
 pub mod Directions

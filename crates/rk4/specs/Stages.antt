@@ -1,12 +1,13 @@
--- What the code's leaves hold: a classical step stage by stage, and the sums of four rows. Definitions only.
-use Prim.Native.Nat.{ℕ, _*_, _-_, _≤_}
+-- What the code's leaves hold: a classical step stage by stage, and a matrix by columns. Definitions only.
+use Prim.Native.Nat.{ℕ, _+_, _*_, _≤_, _<_}
 use mathlib.Core.Path.{_≡_}
+use mathlib.Core.Bool.{cond}
 use mathlib.Core.List.{List, [], _∷_}
-use lib.ListN.{length, take}
-use lib.Ieee.{Float}
-use Rattle.floats.specs.Arithmetic.{_⊗_, zero⁺, half}
+use lib.Dec.{leb}
+use lib.ListN.{length, take, getD}
+use lib.Ieee.{Float, nan}
+use Rattle.floats.specs.Arithmetic.{_⊗_, half}
 use Rattle.floats.specs.Finite.{first-not-finite}
-use Rattle.floats.specs.Vector.{dot-from, part}
 use Rattle.system.specs.System.{dim, tangent}
 use Rattle.system.specs.declared.System.{System}
 use Rattle.system.specs.declared.System.the-variants.{Lorenz, Rossler, VanDerPol, Linear}
@@ -45,9 +46,13 @@ alike h f v = moved h f f f f v
 abbrev pub along : System → List Float → Float → List Float → List Float → List Float → List Float → List Float → List Float
 along S m h x₁ x₂ x₃ x₄ v = moved h (tangent S m (take (dim S) x₁)) (tangent S m (take (dim S) x₂)) (tangent S m (take (dim S) x₃)) (tangent S m (take (dim S) x₄)) v
 
--- the sum of the row of d entries of m from place a on
-abbrev pub row-sum : List Float → ℕ → ℕ → List Float → Float
-row-sum m a d x = dot-from zero⁺ (part a d m) x
+-- the d rows of m, column after column, each column at the front of w entries
+abbrev pub Transposed : ℕ → ℕ → List Float → List Float → Type 0
+Transposed w d m columns = (i j : ℕ) → i < d → j < d → getD columns (w * j + i) nan ≡ getD m (i * d + j) nan
+
+-- how many entries a column has room for
+abbrev pub width-of : ℕ → ℕ
+width-of d = cond (leb d 8) 8 16
 
 -- what a step leaves in the two slices, with the answer that they call for
 abbrev pub tested-finite : List Float → List Float → Stepped

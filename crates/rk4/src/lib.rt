@@ -8,38 +8,59 @@
 // The four derivatives are arrays by value. The state's stage points are computed once and lent to every direction.
 // In dimension 2 and 3 every loop has a literal width, so that it unrolls: stage points have 3 entries, and in
 // dimension 2 the third is 0 and dropped.
+//
+// A linear system's matrix is transposed once a step, into columns of 8 or 16 entries. A product then sums all rows at
+// once, a column at a time, at that literal width: the sums run side by side, and each still adds in index order.
 use error::LyapunovError;
 use error::Outcome;
 use floats::Position;
 use system::System;
 ghost use mathlib.Core.Path.{_≡_};
 ghost use mathlib.Core.Bool.{_&&_};
-ghost use Prim.Native.Nat.{_+_, _*_, _≤_, _<_};
+ghost use Prim.Native.Nat.{ℕ, _+_, _*_, _≤_, _<_};
 ghost use mathlib.Core.List.{List, [], _∷_, _++_, map};
 ghost use lib.Dec.{leb, eqb};
-ghost use lib.ListN.{length, take, drop};
-ghost use lib.Ieee.{Float};
+ghost use lib.ListN.{length, take, drop, getD};
+ghost use lib.Ieee.{Float, nan};
 ghost use Rattle.error.specs.Refusal.{reported};
 ghost use Rattle.error.specs.Tests.{first-failing};
+ghost use Rattle.floats.specs.Arithmetic.{_⊕_, _⊗_};
 ghost use Rattle.floats.specs.Vector.{chunks, concat};
 ghost use Rattle.system.specs.System.{dim, field, times};
 ghost use Rattle.system.specs.Array.{in16};
 ghost use Rattle.rk4.specs.Stepper.{combine-stage, rk4-update};
-ghost use Rattle.rk4.specs.Stages.{Evaluable, NotLinear, row-sum, alike, along, tested-finite};
+ghost use Rattle.rk4.specs.Stages.{Evaluable, NotLinear, Transposed, width-of, alike, along, tested-finite};
 ghost use Rattle.rk4.specs.Step.{step-tests, advanced, stepped, left};
 
-// A slice of at most 16 floats as an array, with zeros behind them.
-fn zero_padded(s: &[f64]) -> [f64; 16]
-    requires { ⌜ length (now s) ≤ 16 ⌝ }
+// A slice of at most `width` floats as an array, with zeros behind them. The width is a literal at each call, so that the
+// loop unrolls.
+fn zero_padded(s: &[f64], width: usize) -> [f64; 16]
+    requires { ⌜ (length (now s) ≤ width) × (width ≤ 16) ⌝ }
     ensures { λ r. ⌜ r ≡ in16 (now (s .entry)) ⌝ }
 {
     let mut out = [0.0; 16];
     let mut i = 0usize;
-    while i < s.len() {
-        out[i] = s[i];
+    while i < width {
+        if i < s.len() {
+            out[i] = s[i];
+        }
         i += 1;
     }
     out
+}
+
+// The front of an array into a slice of at most `width` floats.
+fn copy_front(out: &mut [f64], from: &[f64; 16], width: usize)
+    requires { ⌜ (length (now out) ≤ width) × (width ≤ 16) × (length (now from) ≡ 16) ⌝ }
+    ensures { λ _. ⌜ now (out .exit) ≡ take (length (now (out .entry))) (now (from .entry)) ⌝ }
+{
+    let mut i = 0usize;
+    while i < width {
+        if i < out.len() {
+            out[i] = from[i];
+        }
+        i += 1;
+    }
 }
 
 // base + scale * derivative, at the first d entries of out.
@@ -84,118 +105,146 @@ fn rk4_update(
     }
 }
 
-// The sums of four rows.
-struct Four {
-    pub s0: f64,
-    pub s1: f64,
-    pub s2: f64,
-    pub s3: f64,
-}
-
-// Four rows at once: their sums wait for themselves and not for each other. They start at places a0 to a3.
-fn four_rows(
-    matrix: &[f64],
-    a0: usize,
-    a1: usize,
-    a2: usize,
-    a3: usize,
-    d: usize,
-    x: &[f64],
-) -> Four
-    requires { ⌜ (a0 + d ≤ length (now matrix)) × (a1 + d ≤ length (now matrix)) × (a2 + d ≤ length (now matrix)) × (a3 + d ≤ length (now matrix)) × (d ≤ length (now x)) ⌝ }
-    ensures { λ r. ⌜ (r .s0 ≡ row-sum (now (matrix .entry)) a0 d (now (x .entry))) × (r .s1 ≡ row-sum (now (matrix .entry)) a1 d (now (x .entry)))
-        × (r .s2 ≡ row-sum (now (matrix .entry)) a2 d (now (x .entry))) × (r .s3 ≡ row-sum (now (matrix .entry)) a3 d (now (x .entry))) ⌝ }
+// Row i of a matrix, as entry i of each column. A column has `width` entries.
+fn put_row(columns: &mut [f64], width: usize, i: usize, row: &[f64])
+    requires { ⌜ (i < width) × (width ≤ 16) × (length (now row) ≤ 16) × (width * length (now row) ≤ length (now columns)) ⌝ }
+    ensures { λ _. ⌜ (length (now (columns .exit)) ≡ length (now (columns .entry)))
+        × ((j : ℕ) → j < length (now (row .entry)) → getD (now (columns .exit)) (width * j + i) nan ≡ getD (now (row .entry)) j nan)
+        × ((k j : ℕ) → k < width → (k ≡ i → ⊥) → getD (now (columns .exit)) (width * j + k) nan ≡ getD (now (columns .entry)) (width * j + k) nan) ⌝ }
 {
-    let mut s0 = 0.0;
-    let mut s1 = 0.0;
-    let mut s2 = 0.0;
-    let mut s3 = 0.0;
     let mut j = 0usize;
-    while j < d {
-        s0 = s0 + matrix[a0 + j] * x[j];
-        s1 = s1 + matrix[a1 + j] * x[j];
-        s2 = s2 + matrix[a2 + j] * x[j];
-        s3 = s3 + matrix[a3 + j] * x[j];
+    while j < row.len() {
+        columns[width * j + i] = row[j];
         j += 1;
     }
-    Four { s0, s1, s2, s3 }
 }
 
-// Where row i starts. Behind the last row it is the last row's start, so that four rows can always be read.
-fn row_start(i: usize, d: usize) -> usize
-    requires { ⌜ (0 < d) × (d ≤ 16) ⌝ }
-    ensures { λ r. ⌜ (r + d ≤ d * d) × (i < d → r ≡ i * d) ⌝ }
-{
-    if i < d {
-        return i * d;
-    }
-    (d - 1) * d
-}
-
-// The product of the matrix and x, into the first d entries of out. Up to three entries behind them are written too.
-fn linear_into(matrix: &[f64], d: usize, x: &[f64], out: &mut [f64; 16])
-    requires { ⌜ (length (now matrix) ≡ d * d) × (d ≤ 16) × (d ≤ length (now x)) × (length (now out) ≡ 16) ⌝ }
-    ensures { λ _. ⌜ (length (now (out .exit)) ≡ 16) × (take d (now (out .exit)) ≡ times (chunks d d (now (matrix .entry))) (now (x .entry))) ⌝ }
+// The matrix, column after column.
+fn transpose(matrix: &[f64], d: usize, width: usize, columns: &mut [f64])
+    requires { ⌜ (length (now matrix) ≡ d * d) × (d ≤ width) × (width ≤ 16) × (width * d ≤ length (now columns)) ⌝ }
+    ensures { λ _. ⌜ (length (now (columns .exit)) ≡ length (now (columns .entry))) × Transposed width d (now (matrix .entry)) (now (columns .exit)) ⌝ }
 {
     let mut i = 0usize;
     while i < d {
-        let a0 = row_start(i, d);
-        let a1 = row_start(i + 1, d);
-        let a2 = row_start(i + 2, d);
-        let a3 = row_start(i + 3, d);
-        let f = four_rows(matrix, a0, a1, a2, a3, d, x);
-        out[i] = f.s0;
-        out[i + 1] = f.s1;
-        out[i + 2] = f.s2;
-        out[i + 3] = f.s3;
-        i += 4;
+        let a = i * d;
+        let e = a + d;
+        put_row(columns, width, i, &matrix[a..e]);
+        i += 1;
     }
 }
 
-// The state or a direction of a linear system: both have the same derivative map.
-fn advance_linear(matrix: &[f64], d: usize, v: &mut [f64], h: f64)
-    requires { ⌜ (length (now matrix) ≡ d * d) × (d ≤ 16) × (length (now v) ≡ d) ⌝ }
-    ensures { λ _. ⌜ now (v .exit) ≡ alike h (times (chunks d d (now (matrix .entry)))) (now (v .entry)) ⌝ }
+// Each sum takes the entry of one column times x. The column starts at place a.
+fn add_column(sums: [f64; 16], columns: &[f64], a: usize, x: f64, width: usize) -> [f64; 16]
+    requires { ⌜ (width ≤ 16) × (a + width ≤ length (now columns)) ⌝ }
+    ensures { λ r. ⌜ ((i : ℕ) → i < width → getD r i nan ≡ getD sums i nan ⊕ getD (now (columns .entry)) (a + i) nan ⊗ x) ⌝ }
+{
+    let mut out = sums;
+    let mut i = 0usize;
+    while i < width {
+        out[i] = out[i] + columns[a + i] * x;
+        i += 1;
+    }
+    out
+}
+
+// The product of the matrix and x, at the first d entries. All rows are summed at once, in index order each: the sums wait
+// for themselves and not for each other, and columns are read as they lie.
+fn product(columns: &[f64], d: usize, x: &[f64; 16], width: usize) -> [f64; 16]
+    requires { ⌜ (d ≤ width) × (width ≤ 16) × (width * d ≤ length (now columns)) × (length (now x) ≡ 16) ⌝ }
+    ensures { λ r. ⌜ ((m : List Float) → length m ≡ d * d → Transposed width d m (now (columns .entry)) → take d r ≡ times (chunks d d m) (now (x .entry))) ⌝ }
+{
+    let mut sums = [0.0; 16];
+    let mut j = 0usize;
+    while j < d {
+        let next = add_column(sums, columns, width * j, x[j], width);
+        sums = next;
+        j += 1;
+    }
+    sums
+}
+
+// The state or a direction of a linear system of at most 8 entries: both have the same derivative map.
+fn advance_narrow(columns: &[f64], d: usize, v: &mut [f64], h: f64)
+    requires { ⌜ (d ≤ 8) × (8 * d ≤ length (now columns)) × (length (now v) ≡ d) ⌝ }
+    ensures { λ _. ⌜ ((m : List Float) → length m ≡ d * d → Transposed 8 d m (now (columns .entry)) → now (v .exit) ≡ alike h (times (chunks d d m)) (now (v .entry))) ⌝ }
 {
     let half = 0.5 * h;
-    let mut k1 = [0.0; 16];
-    let mut k2 = [0.0; 16];
-    let mut k3 = [0.0; 16];
-    let mut k4 = [0.0; 16];
-    let mut p = [0.0; 16];
-    linear_into(matrix, d, v, &mut k1);
-    combine_into(v, &k1, half, d, &mut p);
-    linear_into(matrix, d, &p, &mut k2);
-    combine_into(v, &k2, half, d, &mut p);
-    linear_into(matrix, d, &p, &mut k3);
-    combine_into(v, &k3, h, d, &mut p);
-    linear_into(matrix, d, &p, &mut k4);
-    rk4_update(v, k1, k2, k3, k4, h);
+    let x1 = zero_padded(v, 8);
+    let k1 = product(columns, d, &x1, 8);
+    let x2 = combine_stage(&x1, &k1, half, 8);
+    let k2 = product(columns, d, &x2, 8);
+    let x3 = combine_stage(&x1, &k2, half, 8);
+    let k3 = product(columns, d, &x3, 8);
+    let x4 = combine_stage(&x1, &k3, h, 8);
+    let k4 = product(columns, d, &x4, 8);
+    let mut next = x1;
+    rk4_update(&mut next[..8], k1, k2, k3, k4, h);
+    copy_front(v, &next, 8);
+}
+
+// The same with at most 16 entries. Two functions, so that every width is a literal.
+fn advance_wide(columns: &[f64], d: usize, v: &mut [f64], h: f64)
+    requires { ⌜ (d ≤ 16) × (16 * d ≤ length (now columns)) × (length (now v) ≡ d) ⌝ }
+    ensures { λ _. ⌜ ((m : List Float) → length m ≡ d * d → Transposed 16 d m (now (columns .entry)) → now (v .exit) ≡ alike h (times (chunks d d m)) (now (v .entry))) ⌝ }
+{
+    let half = 0.5 * h;
+    let x1 = zero_padded(v, 16);
+    let k1 = product(columns, d, &x1, 16);
+    let x2 = combine_stage(&x1, &k1, half, 16);
+    let k2 = product(columns, d, &x2, 16);
+    let x3 = combine_stage(&x1, &k2, half, 16);
+    let k3 = product(columns, d, &x3, 16);
+    let x4 = combine_stage(&x1, &k3, h, 16);
+    let k4 = product(columns, d, &x4, 16);
+    let mut next = x1;
+    rk4_update(&mut next[..16], k1, k2, k3, k4, h);
+    copy_front(v, &next, 16);
+}
+
+// The state or a direction of a linear system.
+fn advance_linear(columns: &[f64], d: usize, v: &mut [f64], h: f64)
+    requires { ⌜ (d ≤ 16) × (width-of d * d ≤ length (now columns)) × (length (now v) ≡ d) ⌝ }
+    ensures { λ _. ⌜ ((m : List Float) → length m ≡ d * d → Transposed (width-of d) d m (now (columns .entry)) → now (v .exit) ≡ alike h (times (chunks d d m)) (now (v .entry))) ⌝ }
+{
+    if d <= 8 {
+        advance_narrow(columns, d, v, h);
+    } else {
+        advance_wide(columns, d, v, h);
+    }
 }
 
 // Every direction of a linear system.
-fn advance_linear_tangents(matrix: &[f64], d: usize, tangents: &mut [f64], count: usize, h: f64)
-    requires { ⌜ (length (now matrix) ≡ d * d) × (d ≤ 16) × (length (now tangents) ≡ count * d) ⌝ }
-    ensures { λ _. ⌜ now (tangents .exit) ≡ concat (map (alike h (times (chunks d d (now (matrix .entry))))) (chunks d count (now (tangents .entry)))) ⌝ }
+fn advance_linear_tangents(columns: &[f64], d: usize, tangents: &mut [f64], count: usize, h: f64)
+    requires { ⌜ (d ≤ 16) × (width-of d * d ≤ length (now columns)) × (length (now tangents) ≡ count * d) ⌝ }
+    ensures { λ _. ⌜ ((m : List Float) → length m ≡ d * d → Transposed (width-of d) d m (now (columns .entry)) → now (tangents .exit) ≡ concat (map (alike h (times (chunks d d m))) (chunks d count (now (tangents .entry))))) ⌝ }
 {
     let mut j = 0usize;
     while j < count {
         let a = j * d;
         let e = a + d;
-        advance_linear(matrix, d, &mut tangents[a..e], h);
+        advance_linear(columns, d, &mut tangents[a..e], h);
         j += 1;
     }
 }
 
-// A slice of 2 or 3 floats as an array.
-fn zero_padded_small(s: &[f64]) -> [f64; 16]
-    requires { ⌜ (2 ≤ length (now s)) × (length (now s) ≤ 3) ⌝ }
-    ensures { λ r. ⌜ r ≡ in16 (now (s .entry)) ⌝ }
+// A linear system. `columns` takes its matrix, so that rows that lie far apart are read together.
+fn advance_columns(
+    columns: &mut [f64],
+    width: usize,
+    matrix: &[f64],
+    d: usize,
+    state: &mut [f64],
+    tangents: &mut [f64],
+    count: usize,
+    h: f64,
+)
+    requires { ⌜ (length (now matrix) ≡ d * d) × (d ≤ 16) × (width ≡ width-of d) × (width * d ≤ length (now columns)) × (length (now state) ≡ d) × (length (now tangents) ≡ count * d) ⌝ }
+    ensures { λ _. ⌜ (now (state .exit) ≡ alike h (times (chunks d d (now (matrix .entry)))) (now (state .entry)))
+        × (now (tangents .exit) ≡ concat (map (alike h (times (chunks d d (now (matrix .entry))))) (chunks d count (now (tangents .entry))))) ⌝ }
 {
-    if s.len() == 3 {
-        return zero_padded(&s[..3]);
-    }
-    zero_padded(&s[..2])
+    transpose(matrix, d, width, columns);
+    advance_linear_tangents(columns, d, tangents, count, h);
+    advance_linear(columns, d, state, h);
 }
 
 // One direction of a Lorenz system, with the stage points x1 to x4 of the state.
@@ -214,7 +263,7 @@ fn advance_lorenz_tangent(
     ensures { λ _. ⌜ now (t .exit) ≡ along (System.Lorenz sigma rho beta) [] h (now (x1 .entry)) (now (x2 .entry)) (now (x3 .entry)) (now (x4 .entry)) (now (t .entry)) ⌝ }
 {
     let half = 0.5 * h;
-    let t1 = zero_padded(&t[..3]);
+    let t1 = zero_padded(&t[..3], 3);
     let k1 = system::lorenz_tangent(sigma, rho, beta, x1, &t1);
     let t2 = combine_stage(&t1, &k1, half, 3);
     let k2 = system::lorenz_tangent(sigma, rho, beta, x2, &t2);
@@ -240,7 +289,7 @@ fn advance_rossler_tangent(
     ensures { λ _. ⌜ now (t .exit) ≡ along (System.Rossler a c c) [] h (now (x1 .entry)) (now (x2 .entry)) (now (x3 .entry)) (now (x4 .entry)) (now (t .entry)) ⌝ }
 {
     let half = 0.5 * h;
-    let t1 = zero_padded(&t[..3]);
+    let t1 = zero_padded(&t[..3], 3);
     let k1 = system::rossler_tangent(a, c, x1, &t1);
     let t2 = combine_stage(&t1, &k1, half, 3);
     let k2 = system::rossler_tangent(a, c, x2, &t2);
@@ -265,7 +314,7 @@ fn advance_van_der_pol_tangent(
     ensures { λ _. ⌜ now (t .exit) ≡ along (System.VanDerPol mu) [] h (now (x1 .entry)) (now (x2 .entry)) (now (x3 .entry)) (now (x4 .entry)) (now (t .entry)) ⌝ }
 {
     let half = 0.5 * h;
-    let t1 = zero_padded(&t[..2]);
+    let t1 = zero_padded(&t[..2], 2);
     let k1 = system::van_der_pol_tangent(mu, x1, &t1);
     let t2 = combine_stage(&t1, &k1, half, 3);
     let k2 = system::van_der_pol_tangent(mu, x2, &t2);
@@ -279,7 +328,6 @@ fn advance_van_der_pol_tangent(
 // One direction. The system is matched here and not at each stage, so that the stages are straight code.
 fn advance_tangent(
     system: System,
-    matrix: &[f64],
     x1: &[f64; 16],
     x2: &[f64; 16],
     x3: &[f64; 16],
@@ -287,8 +335,8 @@ fn advance_tangent(
     t: &mut [f64],
     h: f64,
 )
-    requires { ⌜ Evaluable system (now matrix) × (dim system ≡ length (now t)) ⌝ }
-    ensures { λ _. ⌜ now (t .exit) ≡ along system (now (matrix .entry)) h (now (x1 .entry)) (now (x2 .entry)) (now (x3 .entry)) (now (x4 .entry)) (now (t .entry)) ⌝ }
+    requires { ⌜ NotLinear system × (dim system ≡ length (now t)) ⌝ }
+    ensures { λ _. ⌜ ((m : List Float) → now (t .exit) ≡ along system m h (now (x1 .entry)) (now (x2 .entry)) (now (x3 .entry)) (now (x4 .entry)) (now (t .entry))) ⌝ }
 {
     match system {
         System::Lorenz { sigma, rho, beta } => {
@@ -300,16 +348,13 @@ fn advance_tangent(
         System::VanDerPol { mu } => {
             advance_van_der_pol_tangent(mu, x1, x2, x3, x4, t, h);
         }
-        System::Linear(d) => {
-            advance_linear(matrix, d, t, h);
-        }
+        System::Linear(_) => {}
     }
 }
 
 // Every direction, in dimension 2 or 3.
 fn advance_tangents(
     system: System,
-    matrix: &[f64],
     x1: &[f64; 16],
     x2: &[f64; 16],
     x3: &[f64; 16],
@@ -319,14 +364,14 @@ fn advance_tangents(
     count: usize,
     h: f64,
 )
-    requires { ⌜ Evaluable system (now matrix) × (dim system ≡ d) × (2 ≤ d) × (d ≤ 3) × (length (now tangents) ≡ count * d) ⌝ }
-    ensures { λ _. ⌜ now (tangents .exit) ≡ concat (map (along system (now (matrix .entry)) h (now (x1 .entry)) (now (x2 .entry)) (now (x3 .entry)) (now (x4 .entry))) (chunks d count (now (tangents .entry)))) ⌝ }
+    requires { ⌜ NotLinear system × (dim system ≡ d) × (2 ≤ d) × (d ≤ 3) × (length (now tangents) ≡ count * d) ⌝ }
+    ensures { λ _. ⌜ ((m : List Float) → now (tangents .exit) ≡ concat (map (along system m h (now (x1 .entry)) (now (x2 .entry)) (now (x3 .entry)) (now (x4 .entry))) (chunks d count (now (tangents .entry))))) ⌝ }
 {
     let mut j = 0usize;
     while j < count {
         let a = j * d;
         let e = a + d;
-        advance_tangent(system, matrix, x1, x2, x3, x4, &mut tangents[a..e], h);
+        advance_tangent(system, x1, x2, x3, x4, &mut tangents[a..e], h);
         j += 1;
     }
 }
@@ -345,20 +390,13 @@ fn vector_field(system: System, s: &[f64; 16]) -> [f64; 16]
 }
 
 // The state, and every direction with its stage points, in dimension 2 or 3.
-fn advance_small(
-    system: System,
-    matrix: &[f64],
-    state: &mut [f64],
-    tangents: &mut [f64],
-    count: usize,
-    h: f64,
-)
+fn advance_small(system: System, state: &mut [f64], tangents: &mut [f64], count: usize, h: f64)
     requires { ⌜ NotLinear system × (dim system ≡ length (now state)) × (2 ≤ length (now state)) × (length (now state) ≤ 3) × (length (now tangents) ≡ count * length (now state)) ⌝ }
-    ensures { λ _. ⌜ tested-finite (now (state .exit)) (now (tangents .exit)) ≡ advanced system (now (matrix .entry)) (now (state .entry)) (now (tangents .entry)) count h ⌝ }
+    ensures { λ _. ⌜ ((m : List Float) → tested-finite (now (state .exit)) (now (tangents .exit)) ≡ advanced system m (now (state .entry)) (now (tangents .entry)) count h) ⌝ }
 {
     let half = 0.5 * h;
     let d = state.len();
-    let x1 = zero_padded_small(state);
+    let x1 = zero_padded(state, 3);
     let k1 = vector_field(system, &x1);
     let x2 = combine_stage(&x1, &k1, half, 3);
     let k2 = vector_field(system, &x2);
@@ -366,7 +404,7 @@ fn advance_small(
     let k3 = vector_field(system, &x3);
     let x4 = combine_stage(&x1, &k3, h, 3);
     let k4 = vector_field(system, &x4);
-    advance_tangents(system, matrix, &x1, &x2, &x3, &x4, tangents, d, count, h);
+    advance_tangents(system, &x1, &x2, &x3, &x4, tangents, d, count, h);
     if d == 3 {
         rk4_update(&mut state[..3], k1, k2, k3, k4, h);
     } else {
@@ -387,10 +425,15 @@ fn advance_values(
     ensures { λ _. ⌜ tested-finite (now (state .exit)) (now (tangents .exit)) ≡ advanced system (now (matrix .entry)) (now (state .entry)) (now (tangents .entry)) count h ⌝ }
 {
     if let System::Linear(d) = system {
-        advance_linear_tangents(matrix, d, tangents, count, h);
-        advance_linear(matrix, d, state, h);
+        if d <= 8 {
+            let mut columns = [0.0; 64];
+            advance_columns(&mut columns, 8, matrix, d, state, tangents, count, h);
+        } else {
+            let mut columns = [0.0; 256];
+            advance_columns(&mut columns, 16, matrix, d, state, tangents, count, h);
+        }
     } else {
-        advance_small(system, matrix, state, tangents, count, h);
+        advance_small(system, state, tangents, count, h);
     }
 }
 

@@ -69,12 +69,10 @@ returns c =
     let ar = s .args in
     small-direction (Lorenz (ar .sigma) (ar .rho) (ar .beta)) [] (ar .h) (ar .x1 .now) (ar .x2 .now) (ar .x3 .now) (ar .x4 .now) (ar .t .now) _ _ _ _ _ _ _ _ _ 3 (sym (s .pre)) (omega (arith, s .pre)) (omega (arith, s .pre))
     (t₁ .zero-padded .ensures ∙ ap in16 (take-all 3 (ar .t .now) (omega (arith, s .pre))))
+    (t₂ .combine-stage .ensures, t₃ .combine-stage2 .ensures, t₄ .combine-stage3 .ensures)
     (k₁ .lorenz-tangent .ensures)
-    (t₂ .combine-stage .ensures)
     (k₂ .lorenz-tangent2 .ensures)
-    (t₃ .combine-stage2 .ensures)
     (k₃ .lorenz-tangent3 .ensures)
-    (t₄ .combine-stage3 .ensures)
     (k₄ .lorenz-tangent4 .ensures)
     (u .rk4-update .ensures)
 

@@ -10,57 +10,46 @@ enum-known-system : tie.Need-enum-known-system
 enum-known-system c = search needs
 
 advance-lorenz-tangent-requires : tie.Need-advance-lorenz-tangent-requires
-advance-lorenz-tangent-requires c κs = let s = c .before .before .before .before .before .before in sym (s .pre .1) ∙ ap dim (c .before .before .system .given .1)
+advance-lorenz-tangent-requires c κs = let s = c .before .before .before .before .before in sym (s .pre .1) ∙ ap dim (c .before .before .system .given .1)
 
 enum-known-system-2 : tie.Need-enum-known-system-2
 enum-known-system-2 c = search needs
 
 advance-rossler-tangent-requires : tie.Need-advance-rossler-tangent-requires
-advance-rossler-tangent-requires c κs = let s = c .before .before .before .before .before .before in sym (s .pre .1) ∙ ap dim (c .before .before .system2 .given .1)
+advance-rossler-tangent-requires c κs = let s = c .before .before .before .before .before in sym (s .pre .1) ∙ ap dim (c .before .before .system2 .given .1)
 
 enum-known-system-3 : tie.Need-enum-known-system-3
 enum-known-system-3 c = search needs
 
 advance-van-der-pol-tangent-requires : tie.Need-advance-van-der-pol-tangent-requires
-advance-van-der-pol-tangent-requires c κs = let s = c .before .before .before .before .before .before in sym (s .pre .1) ∙ ap dim (c .before .before .system3 .given .1)
+advance-van-der-pol-tangent-requires c κs = let s = c .before .before .before .before .before in sym (s .pre .1) ∙ ap dim (c .before .before .system3 .given .1)
 
-enum-known-system-4 : tie.Need-enum-known-system-4
-enum-known-system-4 c = search needs
-
-advance-linear-requires : tie.Need-advance-linear-requires
-advance-linear-requires c κs =
-    let s = c .before .before .before .before .before .before in
-    let e = c .before .before .system4 .given .1 in
-    let p = rw e at (s .pre .0) in
-    (p .0, p .1, sym (s .pre .1) ∙ ap dim e)
+enum-told : tie.Need-enum-told
+enum-told c = search needs
 
 same-length : tie.Need-same-length
 same-length c = search needs
 
 returns : tie.Need-returns
 unfolding tangent moved
-returns c = rw (c .before .before .before .before .before .system .given .1) (c .before .before .advance-lorenz-tangent .ensures)
+returns c m = rw (c .before .before .before .before .before .system .given .1) (c .before .before .advance-lorenz-tangent .ensures)
 
 same-length-2 : tie.Need-same-length-2
 same-length-2 c = search needs
 
 returns-2 : tie.Need-returns-2
 unfolding tangent moved
-returns-2 c = rw (c .before .before .before .before .before .system2 .given .1) (c .before .before .advance-rossler-tangent .ensures)
+returns-2 c m = rw (c .before .before .before .before .before .system2 .given .1) (c .before .before .advance-rossler-tangent .ensures)
 
 same-length-3 : tie.Need-same-length-3
 same-length-3 c = search needs
 
 returns-3 : tie.Need-returns-3
 unfolding tangent moved
-returns-3 c = rw (c .before .before .before .before .before .system3 .given .1) (c .before .before .advance-van-der-pol-tangent .ensures)
-
-same-length-4 : tie.Need-same-length-4
-same-length-4 c = search needs
+returns-3 c m = rw (c .before .before .before .before .before .system3 .given .1) (c .before .before .advance-van-der-pol-tangent .ensures)
 
 returns-4 : tie.Need-returns-4
-unfolding tangent moved
-returns-4 c = rw (c .before .before .before .before .before .system4 .given .1) (c .before .before .advance-linear .ensures)
+returns-4 c m = absurd (rw (c .enum-told .given .1) at (c .before .before .before .pre .0))
 
 pub advance-tangent-spec : {M : Type 1} → statement M
 advance-tangent-spec =
@@ -72,13 +61,11 @@ advance-tangent-spec =
     advance-rossler-tangent-requires
     enum-known-system-3
     advance-van-der-pol-tangent-requires
-    enum-known-system-4
-    advance-linear-requires
+    enum-told
     same-length
     returns
     same-length-2
     returns-2
     same-length-3
     returns-3
-    same-length-4
     returns-4)

@@ -1,38 +1,53 @@
 -- `rk4::advance_tangents` meets its contract. The loop's invariant: the first j directions are taken along.
 use Prim.Native.Nat.{_+_, _*_, _≤_, _-_}
 use native.Mathlib.Omega.{arith}
-use native.Mathlib.Nat.{zero-mul, add-mul}
+use native.Mathlib.Nat.{zero-mul}
 use mathlib.Core.Path.{_≡_, sym, _∙_}
-use mathlib.Core.List.{_++_}
+use mathlib.Core.List.{List, _++_}
 use borrow.Author.Needs.{needs}
-use lib.ListN.{length, take, drop, length-drop}
-use lib.Seq.{length-take-le}
+use lib.ListN.{length, drop}
+use lib.Ieee.{Float}
 use Rattle.floats.specs.Vector.{chunks, concat}
 use Rattle.floats.proofs.Vector.{vector-fits}
 use Rattle.rk4.specs.Stages.{along}
+use Rattle.rk4.proofs.Parts.{lent-length, back-length}
 use Rattle.rk4.proofs.Moves.{along-length}
-use Rattle.rk4.proofs.Directions.{all-by, put-next, put-length, put-all}
+use Rattle.rk4.proofs.Directions.{all-by, put-next, put-all}
 use Rattle.rk4.proofs.advance_tangents.Statement.{statement}
 use Rattle.rk4.proofs.advance_tangents.Tie as tie
 
 abbrev Inv-loop : tie.InvT-loop
-Inv-loop system matrix x1 x2 x3 x4 tangents₀ d count h j₀ tangents j = (j ≤ count) × (length tangents ≡ count * d) × (tangents ≡ all-by (along system matrix h x1 x2 x3 x4) d j tangents₀ ++ drop (j * d) tangents₀)
+Inv-loop system x1 x2 x3 x4 tangents₀ d count h j₀ tangents j =
+    (j ≤ count)
+    × (length tangents ≡ count * d)
+    × ((m : List Float) → tangents ≡ all-by (along system m h x1 x2 x3 x4) d j tangents₀ ++ drop (j * d) tangents₀)
 
 abbrev μ-loop : tie.MeasureT-loop
-μ-loop system matrix x1 x2 x3 x4 tangents₀ d count h j₀ tangents j = count - j
+μ-loop system x1 x2 x3 x4 tangents₀ d count h j₀ tangents j = count - j
+
+-- what is done to a direction, with any matrix m
+abbrev taken : tie.Start Inv-loop μ-loop → List Float → List Float → List Float
+taken s m = along (s .args .system) m (s .args .h) (s .args .x1 .now) (s .args .x2 .now) (s .args .x3 .now) (s .args .x4 .now)
+
+keeps : (s : tie.Start Inv-loop μ-loop) (m v : List Float) → length (taken s m v) ≡ length v
+keeps s m = along-length (s .args .system) m (s .args .h) (s .args .x1 .now) (s .args .x2 .now) (s .args .x3 .now) (s .args .x4 .now)
+
+-- direction j is within the slice
+room : (c : tie.In-loop Inv-loop μ-loop) → c .before .loop .j * c .before .before .before .args .d + c .before .before .before .args .d ≤ length (c .before .loop .tangents)
+room c = let ar = c .before .before .before .args in omega (arith, c .before .loop .inv .1, vector-fits (c .before .loop .j) (ar .count) (ar .d) (omega arith))
 
 loop-holds : tie.Need-loop-holds Inv-loop μ-loop
 unfolding concat chunks
-loop-holds c = (omega arith, c .before .before .pre .4, rw zero-mul)
+loop-holds c = (omega arith, c .before .pre .4, λ m. rw zero-mul)
 
 mul-a : tie.Need-mul-a Inv-loop μ-loop
-mul-a c = let s = c .before .before .before .before in omega (arith, vector-fits (c .before .loop .j) (s .args .count) (s .args .d) (omega arith))
+mul-a c = omega (arith, room c)
 
 add-e : tie.Need-add-e Inv-loop μ-loop
-add-e c = let s = c .before .before .before .before in omega (arith, vector-fits (c .before .loop .j) (s .args .count) (s .args .d) (omega arith))
+add-e c = omega (arith, room c)
 
 mul-advance-tangent : tie.Need-mul-advance-tangent Inv-loop μ-loop
-mul-advance-tangent c = let s = c .before .before .before .before in omega (arith, vector-fits (c .before .loop .j) (s .args .count) (s .args .d) (omega arith))
+mul-advance-tangent c = omega (arith, room c)
 
 sub-advance-tangent : tie.Need-sub-advance-tangent Inv-loop μ-loop
 sub-advance-tangent c = search needs
@@ -41,18 +56,14 @@ part-advance-tangent-start : tie.Need-part-advance-tangent-start Inv-loop μ-loo
 part-advance-tangent-start c = search needs
 
 part-advance-tangent-end : tie.Need-part-advance-tangent-end Inv-loop μ-loop
-part-advance-tangent-end c = let s = c .before .before .before .before in omega (arith, vector-fits (c .before .loop .j) (s .args .count) (s .args .d) (omega arith))
+part-advance-tangent-end c = omega (arith, room c)
 
 advance-tangent-requires : tie.Need-advance-tangent-requires Inv-loop μ-loop
 advance-tangent-requires c κs =
     let l = c .before .before .loop in
-    let s = c .before .before .before .before .before in
+    let s = c .before .before .before .before in
     let d = s .args .d in
-    let f = vector-fits (l .j) (s .args .count) d (omega arith) in
-    let k : l .j * d + d - l .j * d ≡ d = omega arith in
-    let g : d ≤ length (drop (l .j * d) (l .tangents)) = rw length-drop (omega arith) in
-    let q : length (take (l .j * d + d - l .j * d) (drop (l .j * d) (l .tangents))) ≡ d = rw k (length-take-le d (drop (l .j * d) (l .tangents)) g) in
-    (s .pre .0, s .pre .1 ∙ sym q)
+    (s .pre .0, s .pre .1 ∙ sym (lent-length (l .j * d) d (l .j * d + d - l .j * d) (l .tangents) (omega arith) (omega (arith, room (c .before)))))
 
 add-j : tie.Need-add-j Inv-loop μ-loop
 add-j c = search needs
@@ -63,27 +74,25 @@ loop-less c = search needs
 loop-again : tie.Need-loop-again Inv-loop μ-loop
 loop-again c =
     let l = c .before .before .before .before .before .loop in
-    let s = c .before .before .before .before .before .before .before .before in
-    let ar = s .args in
-    let d = ar .d in
-    let G = along (ar .system) (ar .matrix .now) (ar .h) (ar .x1 .now) (ar .x2 .now) (ar .x3 .now) (ar .x4 .now) in
-    let keeps = along-length (ar .system) (ar .matrix .now) (ar .h) (ar .x1 .now) (ar .x2 .now) (ar .x3 .now) (ar .x4 .now) in
-    let f = vector-fits (l .j) (ar .count) d (omega arith) in
-    let e = put-next G keeps d (l .j) (ar .tangents .now) (l .tangents) (l .inv .2) (l .j * d + d - l .j * d) _ (omega arith) (omega arith) (c .before .before .advance-tangent .ensures) in
-    (omega arith, put-length G keeps d (l .j + 1) (ar .tangents .now) _ e (omega (arith, add-mul (l .j) 1 d)) ∙ s .pre .4, e)
+    let s = c .before .before .before .before .before .before .before in
+    let d = s .args .d in
+    let X = l .tangents in
+    let k = l .j * d + d - l .j * d in
+    let r = room (c .before .before .before .before) in
+    let v = c .before .before .advance-tangent in (
+      omega arith,
+      back-length (l .j * d) d k X (omega arith) (omega arith) (v .last .1 .1 .1 .1 .1 .0) (v .kept .1 .1 .1 .1 .1 .0) ∙ l .inv .1,
+      λ m. put-next (taken s m) (keeps s m) d (l .j) (s .args .tangents .now) X (l .inv .2 m) k _ (omega arith) (omega arith) (v .ensures m),
+    )
 
 same-length : tie.Need-same-length Inv-loop μ-loop
-same-length c = c .before .loop .inv .1 ∙ sym (c .before .before .before .before .pre .4)
+same-length c = c .before .loop .inv .1 ∙ sym (c .before .before .before .pre .4)
 
 returns : tie.Need-returns Inv-loop μ-loop
-returns c =
+returns c m =
     let l = c .before .loop in
-    let s = c .before .before .before .before in
-    let ar = s .args in
-    let d = ar .d in
-    let G = along (ar .system) (ar .matrix .now) (ar .h) (ar .x1 .now) (ar .x2 .now) (ar .x3 .now) (ar .x4 .now) in
-    let keeps = along-length (ar .system) (ar .matrix .now) (ar .h) (ar .x1 .now) (ar .x2 .now) (ar .x3 .now) (ar .x4 .now) in
-    put-all G keeps d (l .j) (ar .tangents .now) (l .tangents) (l .inv .2) (ar .count) (omega arith) (s .pre .4)
+    let s = c .before .before .before in
+    put-all (taken s m) (keeps s m) (s .args .d) (l .j) (s .args .tangents .now) (l .tangents) (l .inv .2 m) (s .args .count) (omega arith) (s .pre .4)
 
 pub advance-tangents-spec : {M : Type 1} → statement M
 advance-tangents-spec =

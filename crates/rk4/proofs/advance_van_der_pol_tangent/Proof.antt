@@ -69,12 +69,10 @@ returns c =
     let ar = s .args in
     small-direction (VanDerPol (ar .mu)) [] (ar .h) (ar .x1 .now) (ar .x2 .now) (ar .x3 .now) (ar .x4 .now) (ar .t .now) _ _ _ _ _ _ _ _ _ 2 (sym (s .pre)) (omega (arith, s .pre)) (omega (arith, s .pre))
     (t₁ .zero-padded .ensures ∙ ap in16 (take-all 2 (ar .t .now) (omega (arith, s .pre))))
+    (t₂ .combine-stage .ensures, t₃ .combine-stage2 .ensures, t₄ .combine-stage3 .ensures)
     (k₁ .van-der-pol-tangent .ensures)
-    (t₂ .combine-stage .ensures)
     (k₂ .van-der-pol-tangent2 .ensures)
-    (t₃ .combine-stage2 .ensures)
     (k₃ .van-der-pol-tangent3 .ensures)
-    (t₄ .combine-stage3 .ensures)
     (k₄ .van-der-pol-tangent4 .ensures)
     (u .rk4-update .ensures)
 

@@ -1,22 +1,22 @@
--- `rk4::zero_padded` meets its contract. The loop's invariant: the first i entries are copied.
+-- `rk4::zero_padded` meets its contract. The loop's invariant: the first i entries are copied, as far as there are any.
 use Prim.Native.Nat.{_≤_, _-_}
 use native.Mathlib.Omega.{arith}
-use mathlib.Core.Path.{_≡_, refl, _∙_}
-use mathlib.Core.List.{_++_}
+use mathlib.Core.Path.{_≡_, refl, ap, _∙_}
+use mathlib.Core.Logic.{⊎-elim}
 use borrow.Author.Needs.{needs}
-use lib.ListN.{length, take, drop, length-set, replicate}
+use lib.ListN.{length, length-set, replicate}
 use lib.Ieee.{ofBits}
 use Rattle.floats.specs.Arithmetic.{zero⁺}
-use Rattle.floats.proofs.Fill.{fill-step, whole}
+use Rattle.rk4.proofs.Copy.{Copied, copied-next, copied-past, copied-all}
 use Rattle.rk4.proofs.Padding.{in16-drop}
 use Rattle.rk4.proofs.zero_padded.Statement.{statement}
 use Rattle.rk4.proofs.zero_padded.Tie as tie
 
 abbrev Inv-loop : tie.InvT-loop
-Inv-loop s out₀ i₀ out i = (i ≤ length s) × (length out ≡ 16) × (out ≡ take i s ++ drop i (replicate 16 zero⁺))
+Inv-loop s width out₀ i₀ out i = (i ≤ width) × (length out ≡ 16) × Copied s (replicate 16 zero⁺) i out
 
 abbrev μ-loop : tie.MeasureT-loop
-μ-loop s out₀ i₀ out i = length s - i
+μ-loop s width out₀ i₀ out i = width - i
 
 loop-holds : tie.Need-loop-holds Inv-loop μ-loop
 unfolding ofBits
@@ -44,13 +44,17 @@ loop-again : tie.Need-loop-again Inv-loop μ-loop
 loop-again c =
     let l = c .before .before .loop in
     let s = c .before .before .before .args .s .now in
-    (omega arith, simp length-set (l .inv .1), fill-step s (replicate 16 zero⁺) (l .out) (l .i) _ (l .inv .2) refl (omega arith) (omega arith))
+    let o = replicate 16 zero⁺ in
+    ⊎-elim
+    (λ w. (omega arith, ap length (w .2) ∙ simp length-set (l .inv .1), w .2 ∙ copied-next s o (l .out) (l .i) (l .inv .2) _ refl (omega arith) (omega arith)))
+    (λ w. (omega arith, ap length (w .1) ∙ l .inv .1, w .1 ∙ copied-past s o (l .out) (l .i) (l .inv .2) (omega arith)))
+    (c .if1 .came)
 
 returns : tie.Need-returns Inv-loop μ-loop
 returns c =
     let l = c .before .loop in
     let s = c .before .before .args .s .now in
-    l .inv .2 ∙ whole s (replicate 16 zero⁺) (l .i) refl (omega arith) (omega arith) ∙ in16-drop s (length s) refl (omega arith)
+    copied-all s (replicate 16 zero⁺) (l .out) (l .i) (l .inv .2) (omega arith) ∙ in16-drop s (length s) refl (omega arith)
 
 pub zero-padded-spec : {M : Type 1} → statement M
 zero-padded-spec =
