@@ -1,46 +1,51 @@
-//! How the time of a run grows with windows, directions and dimension.
+//! How the time of a run grows with windows, steps, directions and dimension.
 
 use crate::problem::{linear, lorenz, Problem};
 use crate::race::{seconds, TURNS};
 use crate::runs::{Counts, Run};
 
+type Case = (Problem, Counts);
+
 pub fn tables() -> Result<(), String> {
-    println!("Growth of the library's runs, 10 steps a window. Work is windows times (1+K)·d·d,");
-    println!("the products of a linear step.\n");
-    println!("| run | windows | seconds | to the first | work to the first |");
-    println!("|---|---:|---:|---:|---:|");
-    group(&[(lorenz(), 5_000), (lorenz(), 10_000), (lorenz(), 20_000)]);
-    let by_k = |k| (linear(16, k), 100);
+    println!(
+        "Growth of the library's runs. Work is windows times steps times (1+K)·d·d, the products"
+    );
+    println!("of a linear step.\n");
+    println!("| run | windows | steps | seconds | to the first | work to the first |");
+    println!("|---|---:|---:|---:|---:|---:|");
+    let counts = |steps, windows| Counts { steps, windows };
+    let by_windows = |windows| (lorenz(), counts(10, windows));
+    group(&[by_windows(5_000), by_windows(10_000), by_windows(20_000)]);
+    let by_steps = |steps| (lorenz(), counts(steps, 500));
+    group(&[by_steps(100), by_steps(200), by_steps(400)]);
+    let by_k = |k| (linear(16, k), counts(10, 100));
     group(&[by_k(2), by_k(4), by_k(8), by_k(16)]);
-    let by_d = |d| (linear(d, 4), 200);
+    let by_d = |d| (linear(d, 4), counts(10, 200));
     group(&[by_d(4), by_d(8), by_d(16)]);
     println!();
     Ok(())
 }
 
-fn group(problems: &[(Problem, u64)]) {
-    let times = least(problems);
-    let works: Vec<f64> = problems.iter().map(work).collect();
-    for (at, (problem, windows)) in problems.iter().enumerate() {
+fn group(cases: &[Case]) {
+    let times = least(cases);
+    let works: Vec<f64> = cases.iter().map(work).collect();
+    for (at, (problem, counts)) in cases.iter().enumerate() {
         let (name, time) = (&problem.name, times[at]);
+        let (windows, steps) = (counts.windows, counts.steps);
         let (to_first, work) = (time / times[0], works[at] / works[0]);
-        println!("| {name} | {windows} | {time:.5} | {to_first:.2} | {work:.2} |");
+        println!("| {name} | {windows} | {steps} | {time:.5} | {to_first:.2} | {work:.2} |");
     }
 }
 
-fn work((problem, windows): &(Problem, u64)) -> f64 {
+fn work((problem, counts): &Case) -> f64 {
     let products = (1 + problem.top_k) * problem.dimension * problem.dimension;
-    products as f64 * *windows as f64
+    products as f64 * (counts.windows * counts.steps) as f64
 }
 
 /// The least seconds of each, taken in turn.
-fn least(problems: &[(Problem, u64)]) -> Vec<f64> {
-    let steps = 10;
-    let run = |(problem, windows): &(Problem, u64)| {
-        let windows = *windows;
-        Run::of(problem.clone(), Counts { steps, windows })
-    };
-    let mut runs: Vec<Run> = problems.iter().map(run).collect();
+fn least(cases: &[Case]) -> Vec<f64> {
+    let run = |(problem, counts): &Case| Run::of(problem.clone(), *counts);
+    let mut runs: Vec<Run> = cases.iter().map(run).collect();
     let mut best = vec![f64::INFINITY; runs.len()];
     for _ in 0..TURNS {
         for (run, best) in runs.iter_mut().zip(&mut best) {

@@ -12,6 +12,10 @@ pub fn races(oracle: Option<&Oracle>) -> Result<Vec<Race>, String> {
         (van_der_pol(), 40_000, 0.8),
         (linear(16, 16), 400, 0.8),
         (linear(3, 3), 20_000, 1.1),
+        (linear(1, 1), 20_000, 1.0),
+        (linear(2, 2), 20_000, 1.0),
+        (linear(4, 4), 10_000, 1.0),
+        (linear(8, 8), 4_000, 1.0),
     ];
     let race = |(problem, steps, target)| race(oracle.copied(), problem, steps, target);
     problems.into_iter().map(race).collect()
