@@ -15,8 +15,9 @@ use Rattle.floats.specs.Arithmetic.{_⊕_}
 use Rattle.floats.specs.Finite.{first-not-finite}
 use Rattle.floats.specs.Vector.{concat}
 use Rattle.gram_schmidt.specs.Orthonormalise.{Basis, orthonormalise}
-use Rattle.benettin.specs.Run.{Dynamics, Problem, RunState, Status, ok, refused, refused-at, _then_, tested, stepped, step, steps, unless-collapsed, reorthonormalise, count-faint, window, warm-up}
-use Rattle.benettin.specs.Run.{Row, Course, accumulate, with-row, measured, check-duration, warmed-up, measured-from, course, course-of, initial, RunAnswer, ended, stopped, answer, all-tests, run-past, run}
+use Rattle.benettin.specs.Run.{Dynamics, Problem, RunState, Status, ok, refused, refused-at, _then_, tested, stepped, step, steps, unless-collapsed, reorthonormalise, count-faint, window}
+use Rattle.benettin.specs.Run.{warm-up, Row, Course, accumulate, with-row, measured, check-duration, warmed-up, measured-from, course, course-of, initial, RunAnswer, ended, stopped, answer}
+use Rattle.benettin.specs.Run.{all-tests, run-past, run}
 use Rattle.benettin.specs.Estimate.{problem, estimate}
 use Rattle.benettin.specs.Outputs.{estimated, outputs, lengths-of, flat-rows}
 use Rattle.benettin.specs.Refusals.{EarlyRefusal, LateRefusal}
@@ -83,11 +84,11 @@ module _ (M : Dynamics) (n : ℕ) where
 -- ---- each finished window has its row
 
 module _ (M : Dynamics) (s : ℕ) where
-  with-row-finished : (w n : ℕ) (x : Status) (f : RunState → Course) → Finished n x → ((c : RunState) → c .finished ≡ suc n → Finished (suc n + length (f c .rows)) (f c .end))
+  with-row-finished : (n : ℕ) (x : Status) (f : RunState → Course) → Finished n x → ((c : RunState) → c .finished ≡ suc n → Finished (suc n + length (f c .rows)) (f c .end))
       → Finished (n + length (with-row M x f .rows)) (with-row M x f .end)
   unfolding with-row accumulate
-  with-row-finished w n (refused r) f e h = e ∙ omega arith
-  with-row-finished w n (ok c) f e h = go (f (accumulate c) .end) (h (accumulate c) (ap suc e))
+  with-row-finished n (refused r) f e h = e ∙ omega arith
+  with-row-finished n (ok c) f e h = go (f (accumulate c) .end) (h (accumulate c) (ap suc e))
     where
       go : (x : Status) → Finished (suc n + length (f (accumulate c) .rows)) x → Finished (n + suc (length (f (accumulate c) .rows))) x
       go (ok d) g = g ∙ omega arith
@@ -96,7 +97,7 @@ module _ (M : Dynamics) (s : ℕ) where
   measured-finished : (w n : ℕ) (c : RunState) → c .finished ≡ n → Finished (n + length (measured M s w c .rows)) (measured M s w c .end)
   unfolding measured
   measured-finished zero n c h = h ∙ omega arith
-  measured-finished (suc w) n c h = with-row-finished w n (window M s c) (measured M s w) (window-finished M n s c h) (λ d g. measured-finished w (suc n) d g)
+  measured-finished (suc w) n c h = with-row-finished n (window M s c) (measured M s w) (window-finished M n s c h) (λ d g. measured-finished w (suc n) d g)
 
   from-finished : (w : ℕ) (x : Status) → Finished 0 x → Finished (length (measured-from M s w x .rows)) (measured-from M s w x .end)
   unfolding measured-from

@@ -2,8 +2,8 @@
 use Prim.Native.Nat.{ℕ, zero, suc}
 use mathlib.Core.Logic.{_⊎_, inl, inr}
 use mathlib.Core.List.{List, [], _∷_}
-use Rattle.benettin.specs.Run.{Dynamics, RunState, RunRefusal, Status, ok, refused, _then_, step, steps, reorthonormalise, check-duration, count-faint, window, warm-up, warmed-up, course}
-use Rattle.benettin.specs.Run.{Row, Course, accumulate, row, with-row, measured, measured-from}
+use Rattle.benettin.specs.Run.{Dynamics, RunState, RunRefusal, Status, ok, refused, _then_, step, steps, reorthonormalise, check-duration, count-faint, window, warm-up, warmed-up, course, Row}
+use Rattle.benettin.specs.Run.{Course, accumulate, row, with-row, measured, measured-from}
 
 -- What is compared. `Kept` relates two runs under way, `Same` two refusals, `Rows` the rows; a refusal that is `Left` or `Right` takes the first or the second run out.
 pub record Frame : Type 1 where

@@ -3,8 +3,8 @@
 // `estimate_spectrum_at` (estimate.rt) is the run that crate benettin defines: its answer and every float left in rows,
 // exponents and final state equal specs/Outputs.antt there, for every input. specs/LeadingOutputs.antt states demand 3 of
 // what this function answers and leaves, and proofs/LeadingOutputs.antt proves it. This file has the run from the draw to
-// the answer; crate benettin has the tests and the draw. The state, the directions and their numbers lie in arrays on the
-// stack; nothing is allocated.
+// the answer; crate benettin has the tests, the draw and the steps of a window. The state, the directions and their numbers
+// lie in arrays on the stack; nothing is allocated.
 pub mod estimate;
 
 ghost use mathlib.Core.Path.{_≡_};
@@ -28,7 +28,7 @@ use error::Outcome;
 use system::System;
 
 // What a run carries from window to window, beside the state, the directions and their numbers.
-pub struct Progress {
+struct Progress {
     pub outcome: Outcome,
     pub windows: u64,
     pub steps: u64,

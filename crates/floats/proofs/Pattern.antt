@@ -1,16 +1,15 @@
 -- The value of a bit pattern with the sign clear, in units of the format's smallest value.
-use mathlib.Core.Path.{_≡_, refl, sym, ap, _∙_, subst}
-use mathlib.Core.Logic.{_⊎_, inl, inr}
-use mathlib.Core.Bool.{Bool, false, not, cond}
 use Prim.Native.Nat.{ℕ, zero, suc, _+_, _-_, _*_, _/_, _%_, _^_, _≤_, _<_}
 use native.Mathlib.Nat.{zero-add, eq-or-lt-of-le, mul-assoc, mul-comm, mod-eq-of-lt, pow-suc}
 use native.Mathlib.Omega.{arith}
+use mathlib.Core.Path.{_≡_, refl, sym, ap, _∙_, subst}
+use mathlib.Core.Logic.{_⊎_, inl, inr}
+use mathlib.Core.Bool.{Bool, false, not, cond}
 use lib.Dec.{T, leb, ltb, eqb, not-T, eqb→eq, lit<}
 use lib.Arith.{lt→nleb, le→nltb, digits-lt, digits-div, digits-mod}
 use lib.Ieee.{Float, nan, inf, binary64, odd, ofFields, ofBits, nanBits}
-use lib.Ieee.Bits.{is-false, cond-no, nanBits-is}
+use lib.Ieee.Bits.{is-false, cond-no, nanBits-is, nanBits-above}
 use lib.Ieee.Exact.{HasValue, odd-sign}
-use lib.Ieee.Bits.{nanBits-above}
 use Rattle.floats.proofs.Units.{U, value-no-nan}
 
 opened : (b : ℕ) → ofBits binary64 b ≡ ofFields binary64 (leb (2 ^ 63) b) (b % 2 ^ 63 / 2 ^ 52) (b % 2 ^ 52)

@@ -2,7 +2,7 @@
 use Prim.Native.Nat.{ℕ, _+_, _*_, _≤_, _<_}
 use native.Mathlib.Nat.{eq-or-lt-of-le}
 use native.Mathlib.Omega.{arith}
-use mathlib.Core.Path.{_≡_, refl, sym}
+use mathlib.Core.Path.{_≡_, refl, sym, ap, _∙_}
 use mathlib.Core.Logic.{_⊎_, inl, inr}
 use mathlib.Core.Bool.{Bool, true, false, not, _||_}
 use mathlib.Core.List.{List, map}
@@ -10,21 +10,17 @@ use borrow.Author.Tests.{ltb-false, lt-ltb, eq-eqb}
 use lib.Dec.{ltb}
 use lib.IntN.{negsuc}
 use lib.Ieee.{Float, nan, inf, fin, up, down, below, level, lt, eq, le}
+use lib.Ieee.Scale.{finite}
+use Rattle.error.specs.Refusal.{value, refused, refusal}
+use Rattle.error.specs.declared.LyapunovError.{LyapunovError}
+use Rattle.floats.specs.Arithmetic.{_⊘_, least-normal}
 use Rattle.sqrt.specs.SquareRoot.{root}
 use Rattle.ln.specs.Logarithm.{log, normal, logarithm, answer}
+use Rattle.ln.specs.declared.Logarithm.{Logarithm}
+use Rattle.ln.specs.declared.Logarithm.the-variants.{Value, Refused}
 use Rattle.gram_schmidt.specs.Orthonormalise.{collapsed}
 use Rattle.gram_schmidt.specs.GramSchmidt.{squared-length, normalised, divided}
 use Rattle.gram_schmidt.specs.declared.Normalised.the-variants.{By, Collapsed}
-use Rattle.floats.specs.Arithmetic.{_⊘_}
-use lib.Ieee.Scale.{finite}
-use mathlib.Core.Path.{ap, _∙_}
-use Rattle.error.specs.Refusal.{value, refused, refusal}
-use Rattle.error.specs.declared.LyapunovError.{LyapunovError}
-use Rattle.ln.specs.declared.Logarithm.{Logarithm}
-use Rattle.ln.specs.declared.Logarithm.the-variants.{Value, Refused}
-
-abbrev least : Float
-least = fin false 1 (negsuc 1021)
 
 or-true : (a : Bool) → (a || true) ≡ true
 or-true true = refl
@@ -34,7 +30,7 @@ or-left : (a b : Bool) → (a || b) ≡ false → a ≡ false
 or-left true b e = e
 or-left false b e = refl
 
-pub low : (r : Float) → le r least ≡ true → collapsed r ≡ true
+pub low : (r : Float) → le r least-normal ≡ true → collapsed r ≡ true
 unfolding collapsed
 low r h = rw h (or-true (not (finite r)))
 
@@ -44,7 +40,7 @@ high nan h = refl
 high (inf s) h = refl
 high (fin s m e) h = let z : _≡_ {A = ℕ} 0 1 = cc in absurd (omega arith)
 
-pub held : (r : Float) → le r least ≡ false → lt r (inf false) ≡ true → collapsed r ≡ false
+pub held : (r : Float) → le r least-normal ≡ false → lt r (inf false) ≡ true → collapsed r ≡ false
 unfolding collapsed lt eq le
 held nan h g = sym g
 held (inf true) h g = h
@@ -64,7 +60,7 @@ total true a b h =
     let y : b ≡ 0 = omega arith in
     rw (x, y)
 
-pub normal-held : (r : Float) → le r least ≡ false → lt r (inf false) ≡ true → normal r ≡ true
+pub normal-held : (r : Float) → le r least-normal ≡ false → lt r (inf false) ≡ true → normal r ≡ true
 unfolding lt eq le
 normal-held nan h g = g
 normal-held (inf true) h g = sym h

@@ -16,7 +16,7 @@ use Rattle.sqrt.proofs.Positive.{root-large}
 use Rattle.floats.proofs.Ordinary.{ordinary}
 use Rattle.gram_schmidt.specs.Orthonormalise.{collapsed}
 use Rattle.gram_schmidt.specs.GramSchmidt.{squared-length}
-use Rattle.floats.specs.Arithmetic.{zero⁺}
+use Rattle.floats.specs.Arithmetic.{zero⁺, least-normal}
 use Rattle.floats.specs.Vector.{dot-from}
 use lib.Ieee.Scale.{finite}
 
@@ -81,9 +81,6 @@ sum-unsigned s (x ∷ w) p f =
 abbrev pub degenerate : Float → Bool
 degenerate q = not (finite q) || eq q zero⁺
 
-abbrev least : Float
-least = fin false 1 (negsuc 1021)
-
 -- a value above another one is not at most that
 strict : (s : Bool) (a b : ℕ) → below false b s a ≡ true → (below s a false b || level s a false b) ≡ false
 strict false a b h = let l : b < a = ltb-true b a h in rw (le-ltb a b (omega arith), ne-eqb a b (λ e. omega arith))
@@ -93,13 +90,13 @@ is-true : (b : Bool) → T b → b ≡ true
 is-true true t = refl
 is-true false t = absurd t
 
-above : (r : Float) → T (lt least r) → T (Scale.finite r) → collapsed r ≡ false
+above : (r : Float) → T (lt least-normal r) → T (Scale.finite r) → collapsed r ≡ false
 unfolding collapsed lt eq le
 above nan h f = absurd h
 above (inf s) h f = absurd f
 above (fin s m e) h f = strict s (m * up e * down (negsuc 1021)) (1 * up (negsuc 1021) * down e) (is-true _ h)
 
-zero-low : (e : ℤ) → le (fin false zero e) least ≡ true
+zero-low : (e : ℤ) → le (fin false zero e) least-normal ≡ true
 unfolding lt eq le
 zero-low e =
     let z : zero * up e * down (negsuc 1021) ≡ 0 = rw (zero-mul, zero-mul) in

@@ -16,7 +16,7 @@ use error::LyapunovError;
 use error::Outcome;
 
 // What becomes of a cleared direction: its logarithm and its squared length, or nothing.
-pub enum Normalised {
+enum Normalised {
     By(f64, f64),
     Collapsed,
 }

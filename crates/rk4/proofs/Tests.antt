@@ -11,10 +11,9 @@ use lib.Ieee.Scale.{finite}
 use Rattle.error.specs.Tests.{first-failing}
 use Rattle.error.specs.declared.Refusal.{Refusal}
 use Rattle.error.proofs.Tests.{skip, passed, none-left}
-use Rattle.floats.specs.Finite.{first-not-finite, index}
+use Rattle.floats.specs.Finite.{first-not-finite, index, positive}
 use Rattle.floats.specs.declared.Position.{Position}
 use Rattle.floats.specs.declared.Position.the-variants.{At, Nowhere}
-use Rattle.floats.specs.Finite.{positive}
 use Rattle.system.specs.System.{dim, matrix-fits}
 use Rattle.system.specs.declared.System.{System}
 use Rattle.system.specs.declared.System.the-variants.{Lorenz, Rossler, VanDerPol, Linear}

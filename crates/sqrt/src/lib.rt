@@ -10,7 +10,7 @@ ghost use lib.Ieee.{Float, binary64, ofBits, fits};
 ghost use Rattle.sqrt.specs.SquareRoot as Spec;
 
 // The whole square root of a number n, and n - root^2.
-pub struct WholeRoot {
+struct WholeRoot {
     pub root: u64,
     pub rest: u64,
 }
