@@ -1,4 +1,4 @@
--- The steps of a window: turn by turn, and as the definition of a run has them.
+-- A window: its steps turn by turn, the orthonormalisation behind them, and the steps as the definition of a run has them.
 use Prim.Native.Nat.{ℕ, zero, suc, _+_, _-_, _≤_, _<_}
 use native.Mathlib.Nat.{sub-zero}
 use native.Mathlib.Numerals.{add-one}
@@ -25,9 +25,12 @@ use Rattle.rk4.specs.Step.{Stepped, advance, advanced, not-finite, stepped}
 use Rattle.rk4.specs.Step as Step
 use Rattle.rk4.proofs.Lengths.{direction-length, stepped-lengths}
 use Rattle.rk4.proofs.Tests.{Passed, stepped-passed}
+use Rattle.gram_schmidt.specs.GramSchmidt as GramSchmidt
+use Rattle.gram_schmidt.specs.GramSchmidt.{orthonormalised}
 use Rattle.benettin.specs.Run.{RunState, ok, refused, refused-at, tested, step, steps, _then_}
 use Rattle.benettin.specs.Estimate.{dynamics}
-use Rattle.benettin.specs.Window.{Advanced, after, advance-steps, with-steps, status-of}
+use Rattle.benettin.specs.Window.{Advanced, after, advance-steps, left, windowed, orthonormalised-after, with-steps, status-of}
+use Rattle.benettin.specs.declared.window.Advance.{Advance}
 
 -- ---- turn i of n, from what the step told
 
@@ -53,6 +56,16 @@ module _ (S : System) (m : List Float) (k : ℕ) (h : Float) (n i : ℕ) (time :
 
     pub turn-refused : (ε : LyapunovError) → r ≡ Refused ε → advance-steps S m k h (n - i) i time x t ≡ record { refusal = some (refusal ε); steps = i; time = time; state = x′; tangents = t′ }
     turn-refused ε f = turn (some (refusal ε)) (ap reported f)
+
+-- ---- the orthonormalisation, from what the steps told
+
+module _ (A : Advanced) (numbers : List Float) (a : Advance) (x t : List Float) (e : left a x t ≡ A) where
+  pub window-refused : (ε : LyapunovError) → a .outcome ≡ Refused ε → windowed (left a x t) numbers ≡ orthonormalised-after (A .refusal) A numbers
+  window-refused ε f = rw (← e, f)
+
+  pub window-orthonormalised : (r : Outcome) (t′ numbers′ : List Float) → a .outcome ≡ Accepted → GramSchmidt.left r t′ numbers′ ≡ orthonormalised t (length x) numbers
+      → windowed (record { refusal = reported r; steps = a .steps; time = a .time; state = x; tangents = t′ }) numbers′ ≡ orthonormalised-after (A .refusal) A numbers
+  window-orthonormalised r t′ numbers′ f g = rw (← e, f, ← g)
 
 -- ---- a step as the definition of a run has it
 
@@ -115,12 +128,12 @@ module _ (S : System) (m : List Float) (k : ℕ) (h : Float) (n₀ : ℕ) (time 
         step-size = P .step-size;
       }
 
--- ---- the steps of a window are those of a run, at most n of them, and the time stays finite
+-- ---- the steps of a window are those of a run, at most n of them, the time stays finite, and lengths are kept
 
 abbrev pub Follows : System → List Float → ℕ → Float → ℕ → ℕ → ℕ → Float → List Float → List Float → Advanced → Type 0
 Follows S m k h n₀ n i time x t A =
     ((c : RunState) (made : ℕ) → status-of (A .refusal) (with-steps (dim S) k c (A .state) (A .tangents) (A .time) (made + A .steps)) ≡ steps (dynamics S m h n₀) n (with-steps (dim S) k c x t time (made + i)))
-    × (A .steps ≤ i + n) × (finite (A .time) ≡ true)
+    × (A .steps ≤ i + n) × (finite (A .time) ≡ true) × (length (A .state) ≡ length x) × (length (A .tangents) ≡ length t)
 
 -- one turn, when the rest of them follows
 turn-follows : (S : System) (m : List Float) (k : ℕ) (h : Float) (n₀ n i : ℕ) (time : Float) (x t : List Float) (rest : Advanced) → Passed S m time x t k h
@@ -128,18 +141,25 @@ turn-follows : (S : System) (m : List Float) (k : ℕ) (h : Float) (n₀ n i : �
     → (b ≡ true → Follows S m k h n₀ n (i + 1) (time ⊕ h) (stepped S m time x t k h .state) (stepped S m time x t k h .tangents) rest)
     → Follows S m k h n₀ (suc n) i time x t (after o b i time (stepped S m time x t k h) rest)
 unfolding steps _then_
-turn-follows S m k h n₀ n i time x t rest P (some ρ) f b g r = (λ c made. rw (step-refused S m k h n₀ time x t P c (made + i) ρ f), omega arith, P .initial-time)
-turn-follows S m k h n₀ n i time x t rest P none f false g r = (λ c made. rw (step-late S m k h n₀ time x t P c (made + i) f g), omega arith, P .initial-time)
+turn-follows S m k h n₀ n i time x t rest P (some ρ) f b g r =
+    let l = stepped-lengths S m time x t k h in
+    (λ c made. rw (step-refused S m k h n₀ time x t P c (made + i) ρ f), omega arith, P .initial-time, l .0, l .1)
+turn-follows S m k h n₀ n i time x t rest P none f false g r =
+    let l = stepped-lengths S m time x t k h in
+    (λ c made. rw (step-late S m k h n₀ time x t P c (made + i) f g), omega arith, P .initial-time, l .0, l .1)
 turn-follows S m k h n₀ n i time x t rest P none f true g r =
+    let l = stepped-lengths S m time x t k h in
     let q = r refl in (
       λ c made. let z : made + (i + 1) ≡ made + i + 1 = omega arith in q .0 c made ∙ rw (z, step-on S m k h n₀ time x t P c (made + i) f g),
       omega (arith, q .1),
       q .2,
+      q .3 ∙ l .0,
+      q .4 ∙ l .1,
     )
 
 pub steps-follow : (S : System) (m : List Float) (k : ℕ) (h : Float) (n₀ n i : ℕ) (time : Float) (x t : List Float) → Passed S m time x t k h → Follows S m k h n₀ n i time x t (advance-steps S m k h n i time x t)
 unfolding advance-steps steps
-steps-follow S m k h n₀ zero i time x t P = (λ c made. refl, omega arith, P .initial-time)
+steps-follow S m k h n₀ zero i time x t P = (λ c made. refl, omega arith, P .initial-time, refl, refl)
 steps-follow S m k h n₀ (suc n) i time x t P =
     let s = stepped S m time x t k h in
     turn-follows S m k h n₀ n i time x t _ P (s .refusal) refl (finite (time ⊕ h)) refl

@@ -1,8 +1,9 @@
--- The steps of one window, called alone: what they answer, and what the two slices hold afterwards. Definitions only.
+-- One window called alone: its steps, then the orthonormalisation. What they answer, and what the slices hold afterwards. Definitions only.
 use Prim.Native.Nat.{ℕ, zero, suc, _+_}
 use mathlib.Core.Bool.{Bool, true, false}
 use mathlib.Core.List.{List}
 use mathlib.Core.Option.{Option, none, some}
+use lib.ListN.{length}
 use lib.Ieee.{Float}
 use lib.Ieee.Scale.{finite}
 use Rattle.error.specs.Refusal.{refuse, reported}
@@ -11,6 +12,7 @@ use Rattle.floats.specs.Arithmetic.{_⊕_}
 use Rattle.floats.specs.Vector.{chunks}
 use Rattle.rk4.specs.Step.{Stepped, stepped}
 use Rattle.system.specs.declared.System.{System}
+use Rattle.gram_schmidt.specs.GramSchmidt.{orthonormalised}
 use Rattle.benettin.specs.Run.{RunState, Status, ok, refused, refused-at}
 use Rattle.benettin.specs.declared.BenettinConfig.{BenettinConfig}
 use Rattle.benettin.specs.declared.window.Advance.{Advance}
@@ -43,6 +45,26 @@ advanced-window S m c start x t = advance-steps S m (c .«top_k») (c .«step_si
 -- what the code's answer and its slices stand for
 abbrev pub left : Advance → List Float → List Float → Advanced
 left r x t = record { refusal = reported (r .outcome); steps = r .steps; time = r .time; state = x; tangents = t }
+
+-- ---- the steps, then the orthonormalisation
+
+-- the same, and what the slice of numbers holds
+pub record Windowed : Type 0 where
+  pub advanced : Advanced
+  pub numbers : List Float
+
+abbrev pub windowed : Advanced → List Float → Windowed
+windowed A numbers = record { advanced = A; numbers = numbers }
+
+-- where a step is refused nothing is orthonormalised
+abbrev pub orthonormalised-after : Option Refusal → Advanced → List Float → Windowed
+orthonormalised-after (some r) A numbers = windowed A numbers
+orthonormalised-after none A numbers =
+    let g = orthonormalised (A .tangents) (length (A .state)) numbers in
+    windowed (record { refusal = g .refusal; steps = A .steps; time = A .time; state = A .state; tangents = g .tangents }) (g .numbers)
+
+abbrev pub completed-window : System → List Float → BenettinConfig → Float → List Float → List Float → List Float → Windowed
+completed-window S m c start x t numbers = let A = advanced-window S m c start x t in orthonormalised-after (A .refusal) A numbers
 
 -- ---- the same in a run under way
 

@@ -1,4 +1,4 @@
-// The steps of one window.
+// One window: its steps, then the orthonormalisation.
 ghost use mathlib.Core.Path.{_≡_};
 ghost use Rattle.benettin.specs.Window as Window;
 use crate::BenettinConfig;
@@ -58,5 +58,32 @@ pub fn advance_window(
         outcome: Outcome::Accepted,
         steps: i,
         time,
+    }
+}
+
+// Makes one window: its steps, then, if none is refused, the orthonormalisation of the directions. `numbers` takes their
+// logarithms, then their squared lengths.
+pub fn complete_window(
+    system: System,
+    matrix: &[f64],
+    state: &mut [f64],
+    tangents: &mut [f64],
+    numbers: &mut [f64],
+    config: BenettinConfig,
+    start: f64,
+) -> Advance
+    ensures { λ r. ⌜ Window.windowed (Window.left r (now (state .exit)) (now (tangents .exit))) (now (numbers .exit))
+        ≡ Window.completed-window system (now (matrix .entry)) config start (now (state .entry)) (now (tangents .entry)) (now (numbers .entry)) ⌝ }
+{
+    let a = advance_window(system, matrix, state, tangents, config, start);
+    let v = a.outcome;
+    let Outcome::Accepted = v else {
+        return a;
+    };
+    let outcome = gram_schmidt::modified_gram_schmidt(tangents, state.len(), numbers);
+    Advance {
+        outcome,
+        steps: a.steps,
+        time: a.time,
     }
 }

@@ -2,7 +2,7 @@
 use Prim.Native.Nat.{ℕ, _+_, _-_, _*_, _/_, _≤_, _<_}
 use native.Mathlib.Nat.{mul-div-cancel}
 use native.Mathlib.Omega.{arith}
-use mathlib.Core.Path.{_≡_, refl, sym, ap, _∙_, subst}
+use mathlib.Core.Path.{_≡_, refl, sym, ap, _∙_}
 use mathlib.Core.List.{List, [], _++_}
 use mathlib.Core.Option.{Option, none, some}
 use borrow.Author.Tests.{ne-eqb, le-ltb}
@@ -13,13 +13,13 @@ use mathlib.Core.Bool.{true}
 use lib.Ieee.Scale.{finite}
 use Rattle.error.specs.Refusal.{refusal, refuse, reported}
 use Rattle.error.specs.declared.LyapunovError.{LyapunovError}
+use Rattle.error.specs.declared.Refusal.{Refusal}
 use Rattle.error.specs.declared.Outcome.{Outcome}
 use Rattle.error.specs.declared.Outcome.the-variants.{Accepted, Refused}
 use Rattle.floats.specs.Vector.{chunks, concat}
 use Rattle.floats.proofs.Vector.{Sized, chunks-sized, chunks-concat, chunks-length}
 use Rattle.system.specs.System.{dim}
 use Rattle.rk4.specs.Stepper.{zip}
-use Rattle.rk4.proofs.Tests.{Passed}
 use Rattle.system.specs.declared.System.{System}
 use Rattle.gram_schmidt.specs.Orthonormalise.{Basis, orthonormalise}
 use Rattle.gram_schmidt.specs.GramSchmidt as GramSchmidt
@@ -27,12 +27,13 @@ use Rattle.gram_schmidt.specs.GramSchmidt.{euclidean, stored, orthonormalised, 
 use Rattle.gram_schmidt.proofs.Finished.{after, numbers-length}
 use Rattle.benettin.specs.Run.{Dynamics, RunState, RunRefusal, ok, refused, steps, unless-collapsed, reorthonormalise, with-basis, count-faint, window, _then_}
 use Rattle.benettin.specs.Estimate.{dynamics}
-use Rattle.benettin.specs.Window.{with-steps, advance-steps, left}
+use Rattle.benettin.specs.Window.{Advanced, Windowed, advance-steps, left, windowed, orthonormalised-after, with-steps, status-of}
 use Rattle.benettin.specs.declared.window.Advance.{Advance}
 use Rattle.benettin.proofs.Steps.{Follows, steps-follow}
 use Rattle.benettin.proofs.Prefix.{orthonormalise-sized, orthonormalise-whole}
 use Rattle.estimator.specs.Progress.{run-state, refused-by, status, moved, with-faint, updated, counted, Within, Fitting}
 use Rattle.estimator.specs.declared.Progress.{Progress}
+use Rattle.estimator.proofs.Loops.{passed-of}
 use Rattle.estimator.proofs.Lists.{updated-take, updated-drop, updated-length, counted-more}
 
 -- ---- the orthonormaliser's answer
@@ -94,19 +95,6 @@ module _ (d k : ℕ) (t out : List Float) (h : 0 < d) (g : k ≤ 16) (l : length
       pub reports-many : length (take k (drop k out′)) ≡ k
       reports-many = ap length reports-are ∙ reports-length
 
--- ---- its steps
-
-abbrev pub Stepped : System → List Float → Float → ℕ → ℕ → Float → List Float → List Float → Advance → List Float → List Float → Type 0
-Stepped S m h n k time x t a x′ t′ =
-    ((c : RunState) (made : ℕ) → status (a .outcome) (with-steps (dim S) k c x′ t′ (a .time) (made + a .steps)) ≡ steps (dynamics S m h n) n (with-steps (dim S) k c x t time made))
-    × (a .steps ≤ n) × (finite (a .time) ≡ true)
-
-pub stepped-by : (S : System) (m : List Float) (h : Float) (n k : ℕ) (time : Float) (x t : List Float) (a : Advance) (x′ t′ : List Float) → Passed S m time x t k h
-    → left a x′ t′ ≡ advance-steps S m k h n 0 time x t → Stepped S m h n k time x t a x′ t′
-stepped-by S m h n k time x t a x′ t′ P e =
-    let r = subst (Follows S m k h n n 0 time x t) (sym e) (steps-follow S m k h n n 0 time x t P) in
-    (λ c made. let z : made + 0 ≡ made = omega arith in r .0 c made ∙ rw z, omega (arith, r .1), r .2)
-
 -- ---- a window
 
 module _ (M : Dynamics) (n : ℕ) (c : RunState) where
@@ -122,60 +110,90 @@ module _ (M : Dynamics) (n : ℕ) (c : RunState) where
   unfolding window _then_
   window-ok e f g h = rw (g, h)
 
-module _ (S : System) (m : List Float) (h : Float) (n k : ℕ) (x t norms : List Float) (p : Progress) (a : Advance) (x′ t′ : List Float)
-    (A : Stepped S m h n k (p .time) x t a x′ t′) where
+-- A window from what the code tells: A is what its steps come to by their definition, and E is the contract of the call.
+module _ (S : System) (m : List Float) (h : Float) (n k : ℕ) (x t norms : List Float) (p : Progress) (fit : Fitting S m h x t norms k) (clock : finite (p .time) ≡ true) where
+  abbrev M : Dynamics
+  M = dynamics S m h n
+
+  abbrev A : Advanced
+  A = advance-steps S m k h n 0 (p .time) x t
+
   abbrev c₀ : RunState
   c₀ = run-state (dim S) k x t norms p
 
   abbrev c₁ : RunState
-  c₁ = with-steps (dim S) k c₀ x′ t′ (a .time) (p .steps + a .steps)
+  c₁ = with-steps (dim S) k c₀ (A .state) (A .tangents) (A .time) (p .steps + A .steps)
 
-  -- a step refused
-  pub window-16 : (q : Progress) (ε : LyapunovError) → q ≡ moved p (a .outcome) (a .time) (a .steps) → a .outcome ≡ Refused ε → status (q .outcome) (run-state (dim S) k x′ t′ norms q) ≡ window (dynamics S m h n) n c₀
-  window-16 q ε e v = rw (e, v) (sym (window-refused (dynamics S m h n) n c₀ (refused-by ε c₁) (sym (A .0 c₀ (p .steps)) ∙ rw v)))
+  follows : Follows S m k h n n 0 (p .time) x t A
+  follows = steps-follow S m k h n n 0 (p .time) x t (passed-of fit clock)
 
-  module _ (fit : Fitting S m h x t norms k) (lx : length x′ ≡ length x) (lt : length t′ ≡ length t) (v : a .outcome ≡ Accepted)
-      (r : Outcome) (t″ norms′ : List Float) (e : GramSchmidt.left r t″ norms′ ≡ orthonormalised t′ (length x′) norms) where
-    stepped : steps (dynamics S m h n) n c₀ ≡ ok c₁
-    stepped = sym (A .0 c₀ (p .steps)) ∙ rw v
+  stepped : status-of (A .refusal) c₁ ≡ steps M n c₀
+  stepped = let z : p .steps + 0 ≡ p .steps = omega arith in follows .0 c₀ (p .steps) ∙ rw z
 
-    z : 0 < dim S
-    z = rw (fit .state) (fit .some)
+  tangents-many : length (A .tangents) ≡ k * dim S
+  tangents-many = follows .4 ∙ fit .tangents ∙ ap (λ (j : ℕ). k * j) (sym (fit .state))
 
-    l : length t′ ≡ k * dim S
-    l = lt ∙ fit .tangents ∙ ap (λ (j : ℕ). k * j) (sym (fit .state))
+  dimension-above : 0 < dim S
+  dimension-above = rw (fit .state) (fit .some)
 
-    e′ : GramSchmidt.left r t″ norms′ ≡ orthonormalised t′ (dim S) norms
-    e′ = e ∙ ap (λ (j : ℕ). orthonormalised t′ j norms) (lx ∙ sym (fit .state))
+  module _ (a : Advance) (x′ t′ norms′ : List Float) where
+    abbrev Ended : Option Refusal → Type 0
+    Ended o = windowed (left a x′ t′) norms′ ≡ orthonormalised-after o A norms
 
-    -- a collapse
-    collapsed : (ε : LyapunovError) → r ≡ Refused ε → refused (refused-by ε c₁) ≡ window (dynamics S m h n) n c₀
+    -- a window that is refused by 14 has made its steps too
+    made-by : (o : Option Refusal) → Ended o → (a .steps ≡ A .steps) × (a .time ≡ A .time) × (x′ ≡ A .state)
+    made-by (some r) e = (ap (λ (w : Windowed). w .advanced .steps) e, ap (λ (w : Windowed). w .advanced .time) e, ap (λ (w : Windowed). w .advanced .state) e)
+    made-by none e = (ap (λ (w : Windowed). w .advanced .steps) e, ap (λ (w : Windowed). w .advanced .time) e, ap (λ (w : Windowed). w .advanced .state) e)
+
+    orthonormalised-is : Ended none → GramSchmidt.left (a .outcome) t′ norms′ ≡ orthonormalised (A .tangents) (dim S) norms
+    orthonormalised-is e =
+        ap (λ (w : Windowed). GramSchmidt.holds (w .advanced .refusal) (w .advanced .tangents) (w .numbers)) e
+        ∙ ap (λ (j : ℕ). orthonormalised (A .tangents) j norms) (follows .3 ∙ sym (fit .state))
+
+    -- refused in a step, or by a collapse
+    stopped-by : (o : Option Refusal) → A .refusal ≡ o → Ended o → (ε : LyapunovError) → a .outcome ≡ Refused ε → refused (refused-by ε c₁) ≡ window M n c₀
     unfolding reorthonormalise dynamics
-    collapsed ε f =
+    stopped-by (some r) f e ε v =
+        let g : A .refusal ≡ some (refusal ε) = sym (ap (λ (w : Windowed). w .advanced .refusal) e) ∙ ap reported v in
+        sym (window-refused M n c₀ (refused-by ε c₁) (sym stepped ∙ rw g))
+    stopped-by none f e ε v =
+        let b = basis (dim S) k (A .tangents) in
         sym
-        (window-broken (dynamics S m h n) n c₀ c₁ (refused-by ε c₁) stepped
-        (collapsed-refused (basis (dim S) k t′ .collapse) c₁ (basis (dim S) k t′) ε (sym (ap reported f) ∙ reported-is (dim S) k t′ norms z (fit .few) l (fit .norms) r t″ norms′ e′)))
+        (window-broken M n c₀ c₁ (refused-by ε c₁) (sym stepped ∙ rw f)
+        (collapsed-refused (b .collapse) c₁ b ε (sym (ap reported v) ∙ reported-is (dim S) k (A .tangents) norms dimension-above (fit .few) tangents-many (fit .norms) (a .outcome) t′ norms′ (orthonormalised-is e))))
 
-    pub window-14 : (q : Progress) (ε : LyapunovError) → q ≡ moved p (Refused ε) (a .time) (a .steps) → r ≡ Refused ε → status (q .outcome) (run-state (dim S) k x′ t″ norms′ q) ≡ window (dynamics S m h n) n c₀
-    window-14 q ε e f = rw e (collapsed ε f)
-
-    -- none
-    counted-done : (faint : List ℕ) → r ≡ Accepted → k ≤ length (p .faint) → faint ≡ updated counted (p .faint) (take (k + k - k) (drop k norms′))
-        → ok (run-state (dim S) k x′ t″ norms′ (with-faint (moved p Accepted (a .time) (a .steps)) faint)) ≡ window (dynamics S m h n) n c₀
+    -- or not
+    counted-by : (o : Option Refusal) → A .refusal ≡ o → Ended o → a .outcome ≡ Accepted → (faint : List ℕ) → k ≤ length (p .faint) → faint ≡ updated counted (p .faint) (take (k + k - k) (drop k norms′))
+        → ok (run-state (dim S) k (A .state) t′ norms′ (with-faint (moved p Accepted (A .time) (A .steps)) faint)) ≡ window M n c₀
     unfolding reorthonormalise unless-collapsed count-faint dynamics
-    counted-done faint f len e₅ =
-        let b = basis (dim S) k t′ in
+    counted-by (some r) f e v faint len i =
+        let g : some r ≡ none = sym f ∙ sym (ap (λ (w : Windowed). w .advanced .refusal) e) ∙ ap reported v in
+        let y : _≡_ {A = ℕ} 0 1 = cc in
+        absurd (omega arith)
+    counted-by none f e v faint len i =
+        let b = basis (dim S) k (A .tangents) in
+        let e′ = orthonormalised-is e in
+        let l = tangents-many in
         let u : k + k - k ≡ k = omega arith in
-        let D = directions-are (dim S) k t′ norms z (fit .few) l (fit .norms) r t″ norms′ e′ f in
-        let L = logs-are (dim S) k t′ norms z (fit .few) l (fit .norms) r t″ norms′ e′ f in
-        let N = reports-are (dim S) k t′ norms z (fit .few) l (fit .norms) r t″ norms′ e′ f in
+        let D = directions-are (dim S) k (A .tangents) norms dimension-above (fit .few) l (fit .norms) (a .outcome) t′ norms′ e′ v in
+        let L = logs-are (dim S) k (A .tangents) norms dimension-above (fit .few) l (fit .norms) (a .outcome) t′ norms′ e′ v in
+        let N = reports-are (dim S) k (A .tangents) norms dimension-above (fit .few) l (fit .norms) (a .outcome) t′ norms′ e′ v in
         let F : take k faint ≡ zip counted (take k (p .faint)) (b .reports) =
-        ap (take k) (e₅ ∙ rw u) ∙ updated-take counted (p .faint) (take k (drop k norms′)) k (reports-many (dim S) k t′ norms z (fit .few) l (fit .norms) r t″ norms′ e′ f) len ∙ rw N in
-        sym (window-ok (dynamics S m h n) n c₀ c₁ (with-basis c₁ b) stepped (rw (whole (dim S) k t′ norms z (fit .few) l (fit .norms) r t″ norms′ e′ f)) ∙ rw (D, L, N, F))
+        ap (take k) (i ∙ rw u) ∙ updated-take counted (p .faint) (take k (drop k norms′)) k (reports-many (dim S) k (A .tangents) norms dimension-above (fit .few) l (fit .norms) (a .outcome) t′ norms′ e′ v) len ∙ rw N in
+        sym (window-ok M n c₀ c₁ (with-basis c₁ b) (sym stepped ∙ rw f) (rw (whole (dim S) k (A .tangents) norms dimension-above (fit .few) l (fit .norms) (a .outcome) t′ norms′ e′ v)) ∙ rw (D, L, N, F))
 
-    pub window-done : (q u : Progress) → r ≡ Accepted → k ≤ length (p .faint) → q ≡ moved p (a .outcome) (a .time) (a .steps) → u ≡ with-faint q (updated counted (q .faint) (take (k + k - k) (drop k norms′)))
-        → status (u .outcome) (run-state (dim S) k x′ t″ norms′ u) ≡ window (dynamics S m h n) n c₀
-    window-done q u f len eq eu = rw (eu, eq, v) (counted-done (updated counted (p .faint) (take (k + k - k) (drop k norms′))) f len refl)
+    module _ (E : Ended (A .refusal)) where
+      pub window-made : (a .steps ≤ n) × (finite (a .time) ≡ true)
+      window-made = let g = made-by (A .refusal) E in (rw (g .0) (omega (arith, follows .1)), rw (g .1) (follows .2))
+
+      pub window-stopped : (q : Progress) (ε : LyapunovError) → q ≡ moved p (a .outcome) (a .time) (a .steps) → a .outcome ≡ Refused ε → status (q .outcome) (run-state (dim S) k x′ t′ norms′ q) ≡ window M n c₀
+      window-stopped q ε e v = rw (e, v, made-by (A .refusal) E .0) (stopped-by (A .refusal) refl E ε v)
+
+      pub window-done : (q u : Progress) → a .outcome ≡ Accepted → k ≤ length (p .faint) → q ≡ moved p (a .outcome) (a .time) (a .steps)
+          → u ≡ with-faint q (updated counted (q .faint) (take (k + k - k) (drop k norms′))) → status (u .outcome) (run-state (dim S) k x′ t′ norms′ u) ≡ window M n c₀
+      window-done q u v len eq eu =
+          let g = made-by (A .refusal) E in
+          rw (eu, eq, v, g .0, g .1, g .2) (counted-by (A .refusal) refl E v (updated counted (p .faint) (take (k + k - k) (drop k norms′))) len refl)
 
 -- ---- what is kept beside it
 

@@ -3,8 +3,8 @@
 // `estimate_spectrum_at` (estimate.rt) is the run that crate benettin defines: its answer and every float left in rows,
 // exponents and final state equal specs/Outputs.antt there, for every input. specs/LeadingOutputs.antt states demand 3 of
 // what this function answers and leaves, and proofs/LeadingOutputs.antt proves it. This file has the run from the draw to
-// the answer; crate benettin has the tests, the draw and the steps of a window. The state, the directions and their numbers
-// lie in arrays on the stack; nothing is allocated.
+// the answer; crate benettin has the tests, the draw and a single window. The state, the directions and their numbers lie in
+// arrays on the stack; nothing is allocated.
 pub mod estimate;
 
 ghost use mathlib.Core.Path.{_≡_};
@@ -145,15 +145,20 @@ fn window(
         ≡ Run.window (Under.dynamics-of system (now (matrix .entry)) config) (config .«steps_per_window») (Under.run-state (dim system) (config .«top_k») (now (state .entry)) (now (tangents .entry)) (now (norms .entry)) from))
         × Under.Within (config .«top_k») (config .«steps_per_window») 1 0 from r ⌝ }
 {
-    let a = benettin::window::advance_window(system, matrix, state, tangents, config, from.time);
+    let a = benettin::window::complete_window(
+        system,
+        matrix,
+        state,
+        tangents,
+        norms,
+        config,
+        from.time,
+    );
     let v = a.outcome;
     let q = moved(from, v, a.time, a.steps);
     let Outcome::Accepted = v else {
         return q;
     };
-    if let Outcome::Refused(e) = gram_schmidt::modified_gram_schmidt(tangents, state.len(), norms) {
-        return moved(from, Outcome::Refused(e), a.time, a.steps);
-    }
     let k = config.top_k;
     let e = k + k;
     count_faint(q, &norms[k..e])
