@@ -24,7 +24,7 @@ use Rattle.benettin.proofs.Prefix.{take-replicate}
 use Rattle.estimator.specs.Progress.{run-state, refused-by, status, Within, Room, Fitting, written}
 use Rattle.estimator.specs.Start.{fresh, drawn}
 use Rattle.estimator.specs.declared.Progress.{Progress}
-use Rattle.estimator.proofs.Windows.{basis, collapsed-refused, reported-is, whole, directions-are, logs-are, reports-are}
+use Rattle.estimator.proofs.Windows.{basis, collapsed-refused, reported-is, stands}
 use Rattle.gram_schmidt.specs.GramSchmidt as GramSchmidt
 use Rattle.error.specs.Refusal.{reported}
 
@@ -92,15 +92,8 @@ module _ (S : System) (m : List Float) (h : Float) (n w k : ℕ) (x t₀ norms :
   basis-done : r ≡ Accepted → reorthonormalise (dynamics S m h n) c₀ ≡ ok (run-state (dim S) k x t′ norms′ (fresh Accepted time))
   unfolding unless-collapsed
   basis-done f =
-      basis-is
-      ∙ rw (
-        whole (dim S) k t norms z (F .few) l (F .norms) r t′ norms′ e′ f,
-        directions-are (dim S) k t norms z (F .few) l (F .norms) r t′ norms′ e′ f,
-        logs-are (dim S) k t norms z (F .few) l (F .norms) r t′ norms′ e′ f,
-        reports-are (dim S) k t norms z (F .few) l (F .norms) r t′ norms′ e′ f,
-        take-replicate zero⁺ k 16 (F .few),
-        take-replicate {A = ℕ} 0 k 16 (F .few),
-      )
+      let g = stands (dim S) k t norms z (F .few) l (F .norms) r t′ norms′ e′ f in
+      basis-is ∙ rw (g .whole, g .directions, g .logs, g .reports, take-replicate zero⁺ k 16 (F .few), take-replicate {A = ℕ} 0 k 16 (F .few))
 
   -- 15
   pub ready-15 : (u : Float) → r ≡ Accepted → u ≡ h ⊗ as-float n → finite u ≡ false → refused (refused-at 15 0 c₀) ≡ warmed-up (dynamics S m h n) n w c₀

@@ -46,6 +46,14 @@ unfolding unless-collapsed
 collapsed-refused none c b ε e = let z : _≡_ {A = ℕ} 0 1 = cc in absurd (omega arith)
 collapsed-refused (some j) c b ε e = let z : refusal ε ≡ refuse 14 j = cc in rw z
 
+-- what stands where nothing collapsed: the directions in t′, and the logarithms and squared lengths in out′
+pub record Stands (d k : ℕ) (t t′ out′ : List Float) : Type 0 where
+  pub whole : basis d k t .collapse ≡ none
+  pub directions : chunks d k t′ ≡ basis d k t .directions
+  pub logs : take k out′ ≡ basis d k t .logs
+  pub reports : take k (drop k out′) ≡ basis d k t .reports
+  pub many : length (take k (drop k out′)) ≡ k
+
 no-collapse : (o : Option ℕ) → none ≡ collapse-refusal o → o ≡ none
 no-collapse none e = refl
 no-collapse (some j) e = let z : _≡_ {A = ℕ} 0 1 = cc in absurd (omega arith)
@@ -63,7 +71,7 @@ module _ (d k : ℕ) (t out : List Float) (h : 0 < d) (g : k ≤ 16) (l : length
     reported-is = ap (λ (x : GramSchmidt.Left). x .refusal) (e ∙ stored-is)
 
     module _ (f : r ≡ Accepted) where
-      pub whole : basis d k t .collapse ≡ none
+      whole : basis d k t .collapse ≡ none
       whole = no-collapse (basis d k t .collapse) (sym (ap reported f) ∙ reported-is)
 
       left-is : GramSchmidt.left r t′ out′ ≡ holds none (concat (basis d k t .directions) ++ drop (k * d) t) (basis d k t .logs ++ (basis d k t .reports ++ drop (k + k) out))
@@ -75,7 +83,7 @@ module _ (d k : ℕ) (t out : List Float) (h : 0 < d) (g : k ≤ 16) (l : length
       reports-length : length (basis d k t .reports) ≡ k
       reports-length = numbers-length [] (chunks d k t) whole .1 ∙ chunks-length d k t
 
-      pub directions-are : chunks d k t′ ≡ basis d k t .directions
+      directions-are : chunks d k t′ ≡ basis d k t .directions
       directions-are =
           let n : length (basis d k t .directions) ≡ k = orthonormalise-whole euclidean [] (chunks d k t) .0 ∙ chunks-length d k t in
           let s : Sized d (basis d k t .directions) = orthonormalise-sized euclidean d [] (chunks d k t) (chunks-sized d k t (omega arith)) in
@@ -83,17 +91,17 @@ module _ (d k : ℕ) (t out : List Float) (h : 0 < d) (g : k ≤ 16) (l : length
           ∙ ap (λ (j : ℕ). chunks d j (concat (basis d k t .directions) ++ drop (k * d) t)) (sym n)
           ∙ chunks-concat d (basis d k t .directions) (drop (k * d) t) s
 
-      pub logs-are : take k out′ ≡ basis d k t .logs
+      logs-are : take k out′ ≡ basis d k t .logs
       logs-are = ap (λ (x : GramSchmidt.Left). take k (x .numbers)) left-is ∙ take-at (basis d k t .logs) _ k logs-length
 
-      pub reports-are : take k (drop k out′) ≡ basis d k t .reports
+      reports-are : take k (drop k out′) ≡ basis d k t .reports
       reports-are =
           ap (λ (x : GramSchmidt.Left). take k (drop k (x .numbers))) left-is
           ∙ ap (take k) (drop-at (basis d k t .logs) (basis d k t .reports ++ drop (k + k) out) k logs-length)
           ∙ take-at (basis d k t .reports) _ k reports-length
 
-      pub reports-many : length (take k (drop k out′)) ≡ k
-      reports-many = ap length reports-are ∙ reports-length
+      pub stands : Stands d k t t′ out′
+      stands = record { whole = whole; directions = directions-are; logs = logs-are; reports = reports-are; many = ap length reports-are ∙ reports-length }
 
 -- ---- a window
 
@@ -172,15 +180,11 @@ module _ (S : System) (m : List Float) (h : Float) (n k : ℕ) (x t norms : List
         absurd (omega arith)
     counted-by none f e v faint len i =
         let b = basis (dim S) k (A .tangents) in
-        let e′ = orthonormalised-is e in
-        let l = tangents-many in
+        let g = stands (dim S) k (A .tangents) norms dimension-above (fit .few) tangents-many (fit .norms) (a .outcome) t′ norms′ (orthonormalised-is e) v in
         let u : k + k - k ≡ k = omega arith in
-        let D = directions-are (dim S) k (A .tangents) norms dimension-above (fit .few) l (fit .norms) (a .outcome) t′ norms′ e′ v in
-        let L = logs-are (dim S) k (A .tangents) norms dimension-above (fit .few) l (fit .norms) (a .outcome) t′ norms′ e′ v in
-        let N = reports-are (dim S) k (A .tangents) norms dimension-above (fit .few) l (fit .norms) (a .outcome) t′ norms′ e′ v in
         let F : take k faint ≡ zip counted (take k (p .faint)) (b .reports) =
-        ap (take k) (i ∙ rw u) ∙ updated-take counted (p .faint) (take k (drop k norms′)) k (reports-many (dim S) k (A .tangents) norms dimension-above (fit .few) l (fit .norms) (a .outcome) t′ norms′ e′ v) len ∙ rw N in
-        sym (window-ok M n c₀ c₁ (with-basis c₁ b) (sym stepped ∙ rw f) (rw (whole (dim S) k (A .tangents) norms dimension-above (fit .few) l (fit .norms) (a .outcome) t′ norms′ e′ v)) ∙ rw (D, L, N, F))
+        ap (take k) (i ∙ rw u) ∙ updated-take counted (p .faint) (take k (drop k norms′)) k (g .many) len ∙ rw (g .reports) in
+        sym (window-ok M n c₀ c₁ (with-basis c₁ b) (sym stepped ∙ rw f) (rw (g .whole)) ∙ rw (g .directions, g .logs, g .reports, F))
 
     module _ (E : Ended (A .refusal)) where
       pub window-made : (a .steps ≤ n) × (finite (a .time) ≡ true)
