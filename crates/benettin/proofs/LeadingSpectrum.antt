@@ -9,8 +9,8 @@ use mathlib.Core.List.{List, [], _∷_, _++_, map}
 use mathlib.Core.Option.{Option, none, some}
 use borrow.Author.Tests.{lt-ltb, le-leb}
 use lib.Dec.{leb, ltb}
-use lib.ListN.{length, take, length-map, drop}
-use lib.Seq.{take-nil}
+use lib.ListN.{length, take, length-map, drop, replicate}
+use lib.Seq.{take-nil, take-take}
 use lib.Ieee.{Float}
 use lib.Ieee.Scale.{finite}
 use Rattle.error.specs.Tests.{test, Test, first-failing, _else_}
@@ -24,7 +24,7 @@ use Rattle.system.specs.System.{dim}
 use Rattle.rk4.proofs.Lengths.{direction-length}
 use Rattle.gram_schmidt.specs.Orthonormalise.{Basis, orthonormalise}
 use Rattle.benettin.specs.Run.{Dynamics, Problem, RunState, Status, ok, refused, refused-at, tested, stepped, step, steps, unless-collapsed, reorthonormalise, count-faint, Row, Course}
-use Rattle.benettin.specs.Run.{accumulate, row, initial, check-duration, course-of, RunAnswer, ended, stopped, answer, OutputLengths, run-past, run, output-tests, all-tests}
+use Rattle.benettin.specs.Run.{accumulate, row, initial, check-duration, course-of, RunAnswer, ended, stopped, answer, OutputLengths, no-faint, run-past, run, output-tests, run-tests}
 use Rattle.benettin.specs.LeadingSpectrum.{leading-row, leading, AtOrAbove, RefusedFrom, number, LeadingSpectrum}
 use Rattle.benettin.specs.Estimate.{Input, early-tests, problem, dynamics, estimate}
 use Rattle.benettin.proofs.Prefix.{cut-at, cut-none, cut-some, map-take, zip-take, take-replicate, drawn-directions-take, drawn-directions-sized, drawn-directions-length}
@@ -213,9 +213,13 @@ module _ (M : Dynamics) (keeps : Keeps M) (pd : 0 < M .dim) (k : ℕ) where
         on-row = λ c e rs ss r q. tt;
       }
 
-initial-prefix : (P : Problem) (k K : ℕ) → k ≤ K → initial P k ≡ prefix-of k (initial P K)
+-- the run under way from which a problem's run for K rates starts
+abbrev start : Problem → ℕ → RunState
+start P K = initial (P .generator) (P .dynamics .dim) (P .start) (P .time) (P .seed) K
+
+start-prefix : (P : Problem) (k K : ℕ) → k ≤ K → start P k ≡ prefix-of k (start P K)
 unfolding initial
-initial-prefix P k K h =
+start-prefix P k K h =
     rw (drawn-directions-take (P .generator) (P .dynamics .dim) k K (P .seed) h, take-replicate zero⁺ k K h, take-replicate {A = ℕ} 0 k K h, take-nil {A = Float} k) refl
 
 -- ---- the answer
@@ -226,7 +230,7 @@ unfolding answer
 answer-leading M n k K h rs ss (ok c) (ok e) q s = rw (q, s .1) (simp map-take)
 answer-leading M n k K h rs ss (ok c) (refused b) q s = absurd s
 answer-leading M n k K h rs ss (refused a) (ok e) q s = absurd s
-answer-leading M n k K h rs ss (refused a) (refused b) q s = rw (q, s, take-replicate {A = ℕ} 0 k K h)
+answer-leading M n k K h rs ss (refused a) (refused b) q s = rw (q, s, take-take {A = ℕ} k K (replicate 16 0) h)
 
 late-answer : (M : Dynamics) (n k K : ℕ) (rs : List Row) (x y : Status) → Gone (prefix (M .dim) k) x y → RefusedFrom (M .dim) k (answer M n K rs x)
 unfolding answer
@@ -252,27 +256,27 @@ refused-leading d k (ended rows x) l = l
 refused-leading d k (stopped rows r f) l = l
 
 module _ (P : Problem) (S : Sound P) (pd : 0 < P .dynamics .dim) (k K : ℕ) (h : k ≤ K) where
-  two-courses : SimilarCourses (prefix (P .dynamics .dim) k) (course-of P (initial P K)) (course-of P (initial P k))
+  two-courses : SimilarCourses (prefix (P .dynamics .dim) k) (course-of P K) (course-of P k)
   unfolding initial
   two-courses =
       similar-course (prefix (P .dynamics .dim) k) (P .dynamics) (P .dynamics) (prefix-law (P .dynamics) (S .keeps) pd k) (P .warm-up-steps) (P .warm-up-windows) (P .steps) (P .windows)
-      (initial P K) (initial P k) (drawn-directions-sized (P .generator) (P .dynamics .dim) K (P .seed), initial-prefix P k K h)
+      (start P K) (start P k) (drawn-directions-sized (P .generator) (P .dynamics .dim) K (P .seed), start-prefix P k K h)
 
-  one-course : SimilarCourses (low (P .dynamics .dim) k) (course-of P (initial P k)) (course-of P (initial P k))
+  one-course : SimilarCourses (low (P .dynamics .dim) k) (course-of P k) (course-of P k)
   unfolding initial
   one-course =
       similar-course (low (P .dynamics .dim) k) (P .dynamics) (P .dynamics) (low-law (P .dynamics) (S .keeps) pd k) (P .warm-up-steps) (P .warm-up-windows) (P .steps) (P .windows)
-      (initial P k) (initial P k) ((drawn-directions-sized (P .generator) (P .dynamics .dim) k (P .seed), drawn-directions-length (P .generator) (P .dynamics .dim) k (P .seed)), refl)
+      (start P k) (start P k) ((drawn-directions-sized (P .generator) (P .dynamics .dim) k (P .seed), drawn-directions-length (P .generator) (P .dynamics .dim) k (P .seed)), refl)
 
   core : (leading k (run-past none P K) ≡ run-past none P k) ↔ ¬ RefusedFrom (P .dynamics .dim) k (run-past none P K)
   unfolding run-past
   core = (to, from two-courses)
     where
       t : Course
-      t = course-of P (initial P K)
+      t = course-of P K
 
       u : Course
-      u = course-of P (initial P k)
+      u = course-of P k
 
       to : leading k (answer (P .dynamics) (P .windows) K (t .rows) (t .end)) ≡ answer (P .dynamics) (P .windows) k (u .rows) (u .end) → ¬ RefusedFrom (P .dynamics .dim) k (answer (P .dynamics) (P .windows) K (t .rows) (t .end))
       to e l = low-answer P k u one-course (subst (RefusedFrom (P .dynamics .dim) k) e (refused-leading (P .dynamics .dim) k (answer (P .dynamics) (P .windows) K (t .rows) (t .end)) l))
@@ -285,7 +289,7 @@ module _ (P : Problem) (S : Sound P) (pd : 0 < P .dynamics .dim) (k K : ℕ) (h 
   by-test : (r : Refusal) → (r .number ≢ 14) × (r .number ≢ 17)
       → (leading k (run-past (some r) P K) ≡ run-past (some r) P k) ↔ ¬ RefusedFrom (P .dynamics .dim) k (run-past (some r) P K)
   unfolding run-past
-  by-test r p = (λ _. other (P .dynamics .dim) k (r .number) (r .place) 0 0 (p .0) (p .1), λ _. rw (take-replicate {A = ℕ} 0 k K h))
+  by-test r p = (λ _. other (P .dynamics .dim) k (r .number) (r .place) 0 0 (p .0) (p .1), λ _. rw (take-take {A = ℕ} k K (replicate 16 0) h))
 
 -- ---- the tests
 
@@ -300,7 +304,7 @@ undirected-first (t ∷ ts) h = go (t .passes) (undirected-first ts (h .2))
 
 -- 13, which alone depends on the outputs
 abbrev too-short : Problem → ℕ → OutputLengths → List Test
-too-short P K o = drop 1 (output-tests P K o)
+too-short P K o = drop 1 (output-tests K (P .dynamics .dim) (P .windows) o)
 
 abbrev Thirteen : Option Refusal → Type 0
 Thirteen none = Unit {0}
@@ -308,7 +312,7 @@ Thirteen (some r) = r .number ≡ 13
 
 too-short-is-13 : (P : Problem) (K : ℕ) (o : OutputLengths) → Thirteen (first-failing (too-short P K o))
 unfolding first-failing
-too-short-is-13 P K o = go (leb (P .windows * (1 + 2 * K)) (o .rows)) (leb K (o .exponents)) (leb (length (P .start)) (o .state))
+too-short-is-13 P K o = go (leb (P .windows * (1 + 2 * K)) (o .rows)) (leb K (o .exponents)) (leb (P .dynamics .dim) (o .state))
   where
     go : (a b c : Bool) → Thirteen (first-failing (test a 13 0 ∷ test b 13 1 ∷ test c 13 2 ∷ []))
     go false b c = refl
@@ -318,11 +322,11 @@ too-short-is-13 P K o = go (leb (P .windows * (1 + 2 * K)) (o .rows)) (leb K (o 
 
 -- for 1 ≤ K ≤ d neither 1 nor 12 fails
 tests-fit : (P : Problem) (K : ℕ) (o : OutputLengths) → 0 < K → K ≤ P .dynamics .dim
-    → first-failing (all-tests P K o) ≡ (first-failing (P .tests) else first-failing (too-short P K o))
-unfolding all-tests
+    → first-failing (run-tests P K o) ≡ (first-failing (P .tests) else first-failing (too-short P K o))
+unfolding run-tests
 tests-fit P K o h g =
-    sym (skip (test (ltb 0 K) 1 0) (P .tests ++ output-tests P K o) (lt-ltb 0 K h) refl)
-    ∙ first-append (P .tests) (output-tests P K o)
+    sym (skip (test (ltb 0 K) 1 0) (P .tests ++ output-tests K (P .dynamics .dim) (P .windows) o) (lt-ltb 0 K h) refl)
+    ∙ first-append (P .tests) (output-tests K (P .dynamics .dim) (P .windows) o)
     ∙ ap (λ (s : Option Refusal). first-failing (P .tests) else s) (sym (skip (test (leb K (P .dynamics .dim)) 12 0) (too-short P K o) (le-leb K (P .dynamics .dim) g) refl))
 
 module _ (P : Problem) (S : Sound P) (pd : 0 < P .dynamics .dim) (k K : ℕ) (h : k ≤ K) where
@@ -334,12 +338,6 @@ module _ (P : Problem) (S : Sound P) (pd : 0 < P .dynamics .dim) (k K : ℕ) (h 
   by-tests none (some r) t p hs ht ns nt = absurd (ns hs)
   by-tests none none (some r) p hs ht ns nt = absurd (nt ht)
   by-tests none none none p hs ht ns nt = core P S pd k K h
-
-  own-by-tests : (e s : Option Refusal) → Undirected e → Thirteen s → ¬ RefusedFrom (P .dynamics .dim) k (run-past (e else s) P k)
-  unfolding _else_ run-past
-  own-by-tests (some r) s p q = other (P .dynamics .dim) k (r .number) (r .place) 0 0 (p .0) (p .1)
-  own-by-tests none (some r) p q = other (P .dynamics .dim) k (r .number) (r .place) 0 0 (λ e. absurd (omega (arith, e, q))) (λ e. absurd (omega (arith, e, q)))
-  own-by-tests none none p q = low-answer P k (course-of P (initial P k)) (one-course P S pd k K h)
 
 -- Demand 3 over any dynamics.
 pub leading-run : (P : Problem) → Sound P → (k K : ℕ) (o O : OutputLengths) → 1 ≤ k → k ≤ K → K ≤ P .dynamics .dim
@@ -354,15 +352,6 @@ leading-run P S k K o O hk h hK =
     (by-tests P S pd k K h (first-failing (P .tests)) (first-failing (too-short P k o)) (first-failing (too-short P K O))
     (undirected-first (P .tests) (S .tests)) (too-short-is-13 P k o) (too-short-is-13 P K O))
 
--- A run for k rates is refused at no direction numbered k or above.
-pub own-run : (P : Problem) → Sound P → (k : ℕ) (o : OutputLengths) → 1 ≤ k → k ≤ P .dynamics .dim → ¬ RefusedFrom (P .dynamics .dim) k (run P k o)
-unfolding run
-own-run P S k o hk h =
-    let pd : 0 < P .dynamics .dim = omega arith in
-    let kk : k ≤ k = omega arith in
-    rw (tests-fit P k o hk h)
-    (own-by-tests P S pd k k kk (first-failing (P .tests)) (first-failing (too-short P k o)) (undirected-first (P .tests) (S .tests)) (too-short-is-13 P k o))
-
 -- ---- document 01's run
 
 early-undirected : (i : Input) → NoDirection (early-tests i)
@@ -375,7 +364,3 @@ problem-sound i = record { keeps = λ n x v e. direction-length (i .system) (i .
 pub leading-estimate : LeadingSpectrum
 unfolding estimate problem dynamics
 leading-estimate i k K o O = leading-run (problem i) (problem-sound i) k K o O
-
-pub own-estimate : (i : Input) (k : ℕ) (o : OutputLengths) → 1 ≤ k → k ≤ dim (i .system) → ¬ RefusedFrom (dim (i .system)) k (estimate i k o)
-unfolding estimate problem dynamics
-own-estimate i k o = own-run (problem i) (problem-sound i) k o

@@ -2,7 +2,10 @@
 pub mod Prefix
 pub mod Simulation
 pub mod LeadingSpectrum
-pub mod Refusals
 pub mod RunTests
+pub mod Sizes
+pub mod Reading
+pub mod Refusals
+pub mod LeadingOutputs
 pub mod Draws
 pub mod Steps

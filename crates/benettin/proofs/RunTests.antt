@@ -18,11 +18,9 @@ use Rattle.floats.specs.declared.Position.{Position}
 use Rattle.floats.specs.declared.Position.the-variants.{At, Nowhere}
 use Rattle.system.specs.System.{dim, matrix-fits}
 use Rattle.system.specs.declared.System.{System}
-use Rattle.benettin.specs.Run as Run
-use Rattle.benettin.specs.Run.{all-tests}
+use Rattle.benettin.specs.Run.{OutputLengths, output-tests, run-tests}
 use Rattle.benettin.specs.Estimate.{Input, limit, setting-tests, start-tests, is-none, problem, dynamics}
-use Rattle.benettin.specs.Outputs.{lengths-of}
-use Rattle.benettin.specs.RunTests.{output-tests, run-tests, Ready}
+use Rattle.benettin.specs.Validation.{Ready}
 
 -- ---- 11, by the position that the code found
 
@@ -65,21 +63,21 @@ module _ (S : System) (m : List Float) (time : Float) (x : List Float) where
       let d : dim S ≡ length x = sym (eqb-true (length x) (dim S) (p₁₀ .0)) in
       record { clock = p₆ .0; some = rw (← d) (ltb-true 0 (dim S) (p₇ .0)); small = rw (← d) (leb-true (dim S) 16 (p₈ .0)); matrix = p₉ .0; state = d }
 
-module _ (K d windows rows exponents final : ℕ) where
-  pub outputs-pass : none ≡ first-failing (output-tests K d windows rows exponents final) → (K ≤ d) × (windows * (1 + 2 * K) ≤ rows) × (K ≤ exponents) × (d ≤ final)
+module _ (K d windows : ℕ) (o : OutputLengths) where
+  pub outputs-pass : none ≡ first-failing (output-tests K d windows o) → (K ≤ d) × (windows * (1 + 2 * K) ≤ o .rows) × (K ≤ o .exponents) × (d ≤ o .state)
   outputs-pass e =
       let p = passed _ _ e in
       let q₀ = passed _ _ (p .1) in
       let q₁ = passed _ _ (q₀ .1) in
       let q₂ = passed _ _ (q₁ .1) in
-      (leb-true K d (p .0), leb-true (windows * (1 + 2 * K)) rows (q₀ .0), leb-true K exponents (q₁ .0), leb-true d final (q₂ .0))
+      (leb-true K d (p .0), leb-true (windows * (1 + 2 * K)) (o .rows) (q₀ .0), leb-true K (o .exponents) (q₁ .0), leb-true d (o .state) (q₂ .0))
 
 pub rows-fit : (w k : ℕ) → w ≤ limit → k ≤ 16 → w * (1 + 2 * k) ≤ limit * 33
 rows-fit w k h g = let f : 1 + 2 * k ≤ 33 = omega arith in le-trans (mul-le-mul-right (1 + 2 * k) h) (mul-le-mul-left limit f)
 
 -- ---- the three parts
 
-module _ (i : Input) (K rows exponents final : ℕ) where
+module _ (i : Input) (K : ℕ) (o : OutputLengths) where
   abbrev pub settings : Option Refusal
   settings = first-failing (setting-tests K (i .step-size) (i .steps) (i .windows) (i .warm-up))
 
@@ -87,10 +85,13 @@ module _ (i : Input) (K rows exponents final : ℕ) where
   start = first-failing (start-tests (i .system) (i .matrix) (i .time) (i .state))
 
   abbrev pub outputs : Option Refusal
-  outputs = first-failing (output-tests K (length (i .state)) (i .windows) rows exponents final)
+  outputs = first-failing (output-tests K (dim (i .system)) (i .windows) o)
 
-  pub parts : first-failing (run-tests i K rows exponents final) ≡ (settings else (start else outputs))
-  parts = first-append _ _ ∙ ap (λ (o : Option Refusal). settings else o) (first-append _ _)
+  pub parts : first-failing (run-tests (problem i) K o) ≡ (settings else (start else outputs))
+  unfolding run-tests problem dynamics
+  parts =
+      first-append (setting-tests K (i .step-size) (i .steps) (i .windows) (i .warm-up)) (start-tests (i .system) (i .matrix) (i .time) (i .state) ++ output-tests K (dim (i .system)) (i .windows) o)
+      ∙ ap (λ (r : Option Refusal). settings else r) (first-append _ _)
 
   none-else : (a b : Option Refusal) → none ≡ (a else b) → (none ≡ a) × (none ≡ b)
   unfolding _else_
@@ -98,14 +99,14 @@ module _ (i : Input) (K rows exponents final : ℕ) where
   none-else (some r) b e = let z : _≡_ {A = ℕ} 0 1 = cc in absurd (omega arith)
 
   -- all are passed
-  pub ready : none ≡ first-failing (run-tests i K rows exponents final)
-      → Ready (i .system) (i .matrix) (i .step-size) (i .time) (i .state) K (i .steps) (i .windows) (i .warm-up) × (i .windows * (1 + 2 * K) ≤ rows) × (K ≤ exponents) × (length (i .state) ≤ final)
+  pub ready : none ≡ first-failing (run-tests (problem i) K o)
+      → Ready (i .system) (i .matrix) (i .step-size) (i .time) (i .state) K (i .steps) (i .windows) (i .warm-up) × (i .windows * (1 + 2 * K) ≤ o .rows) × (K ≤ o .exponents) × (length (i .state) ≤ o .state)
   ready e =
       let a = none-else settings (start else outputs) (e ∙ parts) in
       let b = none-else start outputs (a .1) in
       let p = settings-pass K (i .step-size) (i .steps) (i .windows) (i .warm-up) (a .0) in
       let q = start-pass (i .system) (i .matrix) (i .time) (i .state) (b .0) in
-      let r = outputs-pass K (length (i .state)) (i .windows) rows exponents final (b .1) in (
+      let r = outputs-pass K (dim (i .system)) (i .windows) o (b .1) in (
         record {
           matrix = q .matrix;
           size = p .0;
@@ -113,38 +114,12 @@ module _ (i : Input) (K rows exponents final : ℕ) where
           state = q .state;
           some = q .some;
           small = q .small;
-          directions = r .0;
+          directions = rw (← q .state) (r .0);
           steps-limit = p .1;
           windows-limit = p .2;
           warm-up-limit = p .3;
         },
         r .1,
         r .2,
-        r .3,
+        rw (← q .state) (r .3),
       )
-
--- ---- they are the tests of the definition: 12 tests the dimension, which is the length of the state once 10 is passed
-
-same-else : {A : Type 0} (s : Option A) {a b : Option A} → (none ≡ s → a ≡ b) → (s else a) ≡ (s else b)
-unfolding _else_
-same-else none h = h refl
-same-else (some r) h = refl
-
-module _ (i : Input) (K : ℕ) (rows es fs : List Float) where
-  abbrev outputs-of : List Test
-  outputs-of = Run.output-tests (problem i) K (lengths-of rows es fs)
-
-  opened : all-tests (problem i) K (lengths-of rows es fs) ≡ setting-tests K (i .step-size) (i .steps) (i .windows) (i .warm-up) ++ (start-tests (i .system) (i .matrix) (i .time) (i .state) ++ outputs-of)
-  unfolding all-tests problem
-  opened = refl
-
-  outputs-same : dim (i .system) ≡ length (i .state) → output-tests K (length (i .state)) (i .windows) (length rows) (length es) (length fs) ≡ outputs-of
-  unfolding problem dynamics
-  outputs-same d = rw d
-
-  pub tests-are : first-failing (run-tests i K (length rows) (length es) (length fs)) ≡ first-failing (all-tests (problem i) K (lengths-of rows es fs))
-  tests-are =
-      parts i K (length rows) (length es) (length fs)
-      ∙ ap (λ (o : Option Refusal). settings i K 0 0 0 else o)
-      (same-else (start i K 0 0 0) (λ e. ap first-failing (outputs-same (start-pass (i .system) (i .matrix) (i .time) (i .state) e .state))))
-      ∙ sym (ap first-failing opened ∙ first-append _ _ ∙ ap (λ (o : Option Refusal). settings i K 0 0 0 else o) (first-append _ _))

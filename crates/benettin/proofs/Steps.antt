@@ -29,7 +29,7 @@ use Rattle.gram_schmidt.specs.GramSchmidt as GramSchmidt
 use Rattle.gram_schmidt.specs.GramSchmidt.{orthonormalised}
 use Rattle.benettin.specs.Run.{RunState, ok, refused, refused-at, tested, step, steps, _then_}
 use Rattle.benettin.specs.Estimate.{dynamics}
-use Rattle.benettin.specs.Window.{Advanced, after, advance-steps, left, windowed, orthonormalised-after, with-steps, status-of}
+use Rattle.benettin.specs.Window.{Advanced, after, advance-steps, observed, windowed, orthonormalised-after, with-steps, status-of}
 use Rattle.benettin.specs.declared.window.Advance.{Advance}
 
 -- ---- turn i of n, from what the step told
@@ -59,13 +59,13 @@ module _ (S : System) (m : List Float) (k : ℕ) (h : Float) (n i : ℕ) (time :
 
 -- ---- the orthonormalisation, from what the steps told
 
-module _ (A : Advanced) (numbers : List Float) (a : Advance) (x t : List Float) (e : left a x t ≡ A) where
-  pub window-refused : (ε : LyapunovError) → a .outcome ≡ Refused ε → windowed (left a x t) numbers ≡ orthonormalised-after (A .refusal) A numbers
+module _ (A : Advanced) (norms : List Float) (a : Advance) (x t : List Float) (e : observed a x t ≡ A) where
+  pub window-refused : (ε : LyapunovError) → a .outcome ≡ Refused ε → windowed (observed a x t) norms ≡ orthonormalised-after (A .refusal) A norms
   window-refused ε f = rw (← e, f)
 
-  pub window-orthonormalised : (r : Outcome) (t′ numbers′ : List Float) → a .outcome ≡ Accepted → GramSchmidt.left r t′ numbers′ ≡ orthonormalised t (length x) numbers
-      → windowed (record { refusal = reported r; steps = a .steps; time = a .time; state = x; tangents = t′ }) numbers′ ≡ orthonormalised-after (A .refusal) A numbers
-  window-orthonormalised r t′ numbers′ f g = rw (← e, f, ← g)
+  pub window-orthonormalised : (r : Outcome) (t′ norms′ : List Float) → a .outcome ≡ Accepted → GramSchmidt.left r t′ norms′ ≡ orthonormalised t (length x) norms
+      → windowed (record { refusal = reported r; steps = a .steps; time = a .time; state = x; tangents = t′ }) norms′ ≡ orthonormalised-after (A .refusal) A norms
+  window-orthonormalised r t′ norms′ f g = rw (← e, f, ← g)
 
 -- ---- a step as the definition of a run has it
 

@@ -50,9 +50,13 @@ limit-tests steps windows warm-up =
     ∷ test (leb warm-up limit) 5 2
     ∷ []
 
+-- 2 to 5: the settings apart from K
+abbrev pub size-tests : Float → ℕ → ℕ → ℕ → List Test
+size-tests h steps windows warm-up = test (positive h) 2 0 ∷ limit-tests steps windows warm-up
+
 -- 1 to 5
 abbrev pub setting-tests : ℕ → Float → ℕ → ℕ → ℕ → List Test
-setting-tests K h steps windows warm-up = test (ltb 0 K) 1 0 ∷ test (positive h) 2 0 ∷ limit-tests steps windows warm-up
+setting-tests K h steps windows warm-up = test (ltb 0 K) 1 0 ∷ size-tests h steps windows warm-up
 
 abbrev pub is-none : Option ℕ → Bool
 is-none none = true
@@ -73,8 +77,7 @@ start-tests S m time x =
 
 -- 2 to 11
 abbrev pub early-tests : Input → List Test
-early-tests i =
-    test (positive (i .step-size)) 2 0 ∷ (limit-tests (i .steps) (i .windows) (i .warm-up) ++ start-tests (i .system) (i .matrix) (i .time) (i .state))
+early-tests i = size-tests (i .step-size) (i .steps) (i .windows) (i .warm-up) ++ start-tests (i .system) (i .matrix) (i .time) (i .state)
 
 -- ---- the parameters
 

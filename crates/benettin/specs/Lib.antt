@@ -2,8 +2,9 @@
 pub mod Run
 pub mod Estimate
 pub mod Outputs
-pub mod RunTests
-pub mod Window
-pub mod LeadingSpectrum
 pub mod Refusals
+pub mod LeadingSpectrum
+pub mod LeadingOutputs
 pub mod Examples
+pub mod Window
+pub mod Validation

@@ -5,7 +5,7 @@ use mathlib.Core.List.{List, [], _∷_, _++_, map}
 use mathlib.Core.Option.{Option, none, some}
 use lib.Dec.{leb, ltb}
 use lib.IntN.{pos}
-use lib.ListN.{length, replicate}
+use lib.ListN.{take, replicate}
 use lib.Ieee.{Float, binary64, ofInt}
 use lib.Ieee.Scale.{finite}
 use Rattle.error.specs.Tests.{Test, test, first-failing}
@@ -144,7 +144,7 @@ unfoldable pub window : Dynamics → ℕ → RunState → Status
 unfolding steps reorthonormalise count-faint _then_
 window M n c = steps M n c then reorthonormalise M then (λ e. ok (count-faint M e))
 
--- n windows of s steps that report nothing
+-- `warm-up` is document 01's term: n windows of s steps that report nothing
 unfoldable pub warm-up : Dynamics → ℕ → ℕ → RunState → Status
 unfolding window _then_
 warm-up M s zero c = ok c
@@ -177,7 +177,7 @@ accumulate c =
       faint = c .faint;
     }
 
--- local = logarithm / D, running = sum / (D * (w + 1))
+-- `local` and `running` are document 01's terms, of the window alone and of all measured ones so far: logarithm / D, and sum / (D * (w + 1))
 unfoldable pub row : Dynamics → RunState → Row
 unfolding as-float
 row M c =
@@ -220,13 +220,14 @@ unfolding draws generator-after
 drawn-directions G d zero s = []
 drawn-directions G d (suc n) s = draws G d s ∷ drawn-directions G d n (generator-after (G .next) d s)
 
-unfoldable pub initial : Problem → ℕ → RunState
+-- the drawn directions with nothing done: K directions of d entries, from the state x, the time and the seed
+unfoldable pub initial : Generator → ℕ → List Float → Float → ℕ → ℕ → RunState
 unfolding drawn-directions
-initial P K =
+initial G d x time seed K =
     record {
-      state = P .start;
-      directions = drawn-directions (P .generator) (P .dynamics .dim) K (P .seed);
-      time = P .time;
+      state = x;
+      directions = drawn-directions G d K seed;
+      time = time;
       steps = 0;
       finished = 0;
       logs = [];
@@ -255,8 +256,10 @@ unfoldable pub course : Dynamics → ℕ → ℕ → ℕ → ℕ → RunState �
 unfolding warmed-up measured-from
 course M u w s n c = measured-from M s n (warmed-up M u w c)
 
-abbrev pub course-of : Problem → RunState → Course
-course-of P c = course (P .dynamics) (P .warm-up-steps) (P .warm-up-windows) (P .steps) (P .windows) c
+-- for K rates
+abbrev pub course-of : Problem → ℕ → Course
+course-of P K =
+    course (P .dynamics) (P .warm-up-steps) (P .warm-up-windows) (P .steps) (P .windows) (initial (P .generator) (P .dynamics .dim) (P .start) (P .time) (P .seed) K)
 
 -- ---- the answer
 
@@ -268,10 +271,14 @@ pub record Spectrum : Type 0 where
   pub measured-time : Float
   pub steps : ℕ
 
--- a run that ends, and one that is refused, with all faint counts 0; both with the rows of their finished measured windows
+-- a run that ends, and one that is refused, with its faint counts; both with the rows of their finished measured windows
 pub data RunAnswer : Type 0 where
   ended : List Row → Spectrum → RunAnswer
   stopped : List Row → RunRefusal → List ℕ → RunAnswer
+
+-- the faint counts of a refused run: sixteen zeros, of which a run for K rates has the first K
+abbrev pub no-faint : ℕ → List ℕ
+no-faint K = take K (replicate 16 0)
 
 -- of n measured windows and K rates: exponents sum / (D * windows), measured time D * windows
 unfoldable pub answer : Dynamics → ℕ → ℕ → List Row → Status → RunAnswer
@@ -279,7 +286,7 @@ unfolding as-float
 answer M n K rows (ok c) =
     let m = M .duration ⊗ as-float n in
     ended rows (record { exponents = map (λ x. x ⊘ m) (c .sums); faint = c .faint; state = c .state; final-time = c .time; measured-time = m; steps = c .steps })
-answer M n K rows (refused r) = stopped rows r (replicate K 0)
+answer M n K rows (refused r) = stopped rows r (no-faint K)
 
 -- the lengths of the three outputs
 pub record OutputLengths : Type 0 where
@@ -287,24 +294,23 @@ pub record OutputLengths : Type 0 where
   pub exponents : ℕ
   pub state : ℕ
 
+abbrev pub lengths : ℕ → ℕ → ℕ → OutputLengths
+lengths rows exponents state = record { rows = rows; exponents = exponents; state = state }
+
 -- 12 K above d, then 13 an output too short: 0 rows of 1 + 2 * K floats, 1 exponents, 2 final state
-abbrev pub output-tests : Problem → ℕ → OutputLengths → List Test
-output-tests P K o =
-    test (leb K (P .dynamics .dim)) 12 0
-    ∷ test (leb (P .windows * (1 + 2 * K)) (o .rows)) 13 0
-    ∷ test (leb K (o .exponents)) 13 1
-    ∷ test (leb (length (P .start)) (o .state)) 13 2
-    ∷ []
+abbrev pub output-tests : ℕ → ℕ → ℕ → OutputLengths → List Test
+output-tests K d windows o =
+    test (leb K d) 12 0 ∷ test (leb (windows * (1 + 2 * K)) (o .rows)) 13 0 ∷ test (leb K (o .exponents)) 13 1 ∷ test (leb d (o .state)) 13 2 ∷ []
 
 -- 1 to 13, in number order
-unfoldable pub all-tests : Problem → ℕ → OutputLengths → List Test
-all-tests P K o = test (ltb 0 K) 1 0 ∷ (P .tests ++ output-tests P K o)
+unfoldable pub run-tests : Problem → ℕ → OutputLengths → List Test
+run-tests P K o = test (ltb 0 K) 1 0 ∷ (P .tests ++ output-tests K (P .dynamics .dim) (P .windows) o)
 
 unfoldable pub run-past : Option Refusal → Problem → ℕ → RunAnswer
 unfolding initial course answer
-run-past (some r) P K = stopped [] (record { number = r .number; place = r .place; finished = 0; steps = 0 }) (replicate K 0)
-run-past none P K = let t = course-of P (initial P K) in answer (P .dynamics) (P .windows) K (t .rows) (t .end)
+run-past (some r) P K = stopped [] (record { number = r .number; place = r .place; finished = 0; steps = 0 }) (no-faint K)
+run-past none P K = let t = course-of P K in answer (P .dynamics) (P .windows) K (t .rows) (t .end)
 
 unfoldable pub run : Problem → ℕ → OutputLengths → RunAnswer
-unfolding first-failing all-tests run-past
-run P K o = run-past (first-failing (all-tests P K o)) P K
+unfolding first-failing run-tests run-past
+run P K o = run-past (first-failing (run-tests P K o)) P K

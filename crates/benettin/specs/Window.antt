@@ -43,28 +43,28 @@ abbrev pub advanced-window : System → List Float → BenettinConfig → Float 
 advanced-window S m c start x t = advance-steps S m (c .«top_k») (c .«step_size») (c .«steps_per_window») 0 start x t
 
 -- what the code's answer and its slices stand for
-abbrev pub left : Advance → List Float → List Float → Advanced
-left r x t = record { refusal = reported (r .outcome); steps = r .steps; time = r .time; state = x; tangents = t }
+abbrev pub observed : Advance → List Float → List Float → Advanced
+observed r x t = record { refusal = reported (r .outcome); steps = r .steps; time = r .time; state = x; tangents = t }
 
 -- ---- the steps, then the orthonormalisation
 
--- the same, and what the slice of numbers holds
+-- the same, and what the slice of logarithms and squared lengths holds
 pub record Windowed : Type 0 where
   pub advanced : Advanced
-  pub numbers : List Float
+  pub norms : List Float
 
 abbrev pub windowed : Advanced → List Float → Windowed
-windowed A numbers = record { advanced = A; numbers = numbers }
+windowed A norms = record { advanced = A; norms = norms }
 
 -- where a step is refused nothing is orthonormalised
 abbrev pub orthonormalised-after : Option Refusal → Advanced → List Float → Windowed
-orthonormalised-after (some r) A numbers = windowed A numbers
-orthonormalised-after none A numbers =
-    let g = orthonormalised (A .tangents) (length (A .state)) numbers in
+orthonormalised-after (some r) A norms = windowed A norms
+orthonormalised-after none A norms =
+    let g = orthonormalised (A .tangents) (length (A .state)) norms in
     windowed (record { refusal = g .refusal; steps = A .steps; time = A .time; state = A .state; tangents = g .tangents }) (g .numbers)
 
 abbrev pub completed-window : System → List Float → BenettinConfig → Float → List Float → List Float → List Float → Windowed
-completed-window S m c start x t numbers = let A = advanced-window S m c start x t in orthonormalised-after (A .refusal) A numbers
+completed-window S m c start x t norms = let A = advanced-window S m c start x t in orthonormalised-after (A .refusal) A norms
 
 -- ---- the same in a run under way
 

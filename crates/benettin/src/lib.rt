@@ -2,11 +2,11 @@
 //
 // specs/Run.antt defines a run over any dynamics, specs/Estimate.antt is document 01's run, specs/Outputs.antt is what it
 // leaves in the caller's slices. specs/LeadingSpectrum.antt states that the first rates hold still when more are asked
-// for, and proofs/LeadingSpectrum.antt proves it. tests.rt makes the tests 1 to 13, basis.rt the directions that a run
+// for, and proofs/LeadingSpectrum.antt proves it. validation.rt makes the tests 1 to 13, basis.rt the directions that a run
 // starts from, window.rt one window (specs/Window.antt): they need nothing of a run under way. Crate estimator proves that
 // the code is this run.
 pub mod basis;
-pub mod tests;
+pub mod validation;
 pub mod window;
 
 ghost use mathlib.Core.Path.{_≡_};

@@ -22,7 +22,7 @@ pub fn advance_window(
     config: BenettinConfig,
     start: f64,
 ) -> Advance
-    ensures { λ r. ⌜ Window.left r (now (state .exit)) (now (tangents .exit)) ≡ Window.advanced-window system (now (matrix .entry)) config start (now (state .entry)) (now (tangents .entry)) ⌝ }
+    ensures { λ r. ⌜ Window.observed r (now (state .exit)) (now (tangents .exit)) ≡ Window.advanced-window system (now (matrix .entry)) config start (now (state .entry)) (now (tangents .entry)) ⌝ }
 {
     let mut time = start;
     let mut i: u64 = 0;
@@ -61,26 +61,26 @@ pub fn advance_window(
     }
 }
 
-// Makes one window: its steps, then, if none is refused, the orthonormalisation of the directions. `numbers` takes their
+// Makes one window: its steps, then, if none is refused, the orthonormalisation of the directions. `norms` takes their
 // logarithms, then their squared lengths.
 pub fn complete_window(
     system: System,
     matrix: &[f64],
     state: &mut [f64],
     tangents: &mut [f64],
-    numbers: &mut [f64],
+    norms: &mut [f64],
     config: BenettinConfig,
     start: f64,
 ) -> Advance
-    ensures { λ r. ⌜ Window.windowed (Window.left r (now (state .exit)) (now (tangents .exit))) (now (numbers .exit))
-        ≡ Window.completed-window system (now (matrix .entry)) config start (now (state .entry)) (now (tangents .entry)) (now (numbers .entry)) ⌝ }
+    ensures { λ r. ⌜ Window.windowed (Window.observed r (now (state .exit)) (now (tangents .exit))) (now (norms .exit))
+        ≡ Window.completed-window system (now (matrix .entry)) config start (now (state .entry)) (now (tangents .entry)) (now (norms .entry)) ⌝ }
 {
     let a = advance_window(system, matrix, state, tangents, config, start);
     let v = a.outcome;
     let Outcome::Accepted = v else {
         return a;
     };
-    let outcome = gram_schmidt::modified_gram_schmidt(tangents, state.len(), numbers);
+    let outcome = gram_schmidt::modified_gram_schmidt(tangents, state.len(), norms);
     Advance {
         outcome,
         steps: a.steps,

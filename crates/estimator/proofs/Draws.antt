@@ -17,12 +17,12 @@ use Rattle.floats.specs.Arithmetic.{_⊗_, zero⁺}
 use Rattle.system.specs.System.{dim}
 use Rattle.system.specs.declared.System.{System}
 use Rattle.gram_schmidt.specs.GramSchmidt.{orthonormalised}
-use Rattle.benettin.specs.Run.{Dynamics, RunState, Status, ok, refused, refused-at, unless-collapsed, reorthonormalise, warm-up, as-float, _then_, draws, check-duration, warmed-up, measured-from, course}
+use Rattle.benettin.specs.Run.{Dynamics, RunState, Status, ok, refused, refused-at, unless-collapsed, reorthonormalise, warm-up, as-float, _then_, draws, check-duration, warmed-up, measured-from, course, initial}
 use Rattle.benettin.specs.Estimate.{dynamics, splitmix64, limit}
 use Rattle.benettin.proofs.Draws.{draws-length, drawn-are}
 use Rattle.benettin.proofs.Prefix.{take-replicate}
 use Rattle.estimator.specs.Progress.{run-state, refused-by, status, Within, Room, Fitting, written}
-use Rattle.estimator.specs.Start.{fresh, drawn}
+use Rattle.estimator.specs.Start.{fresh}
 use Rattle.estimator.specs.declared.Progress.{Progress}
 use Rattle.estimator.proofs.Windows.{basis, collapsed-refused, reported-is, stands}
 use Rattle.gram_schmidt.specs.GramSchmidt as GramSchmidt
@@ -63,7 +63,7 @@ module _ (S : System) (m : List Float) (h : Float) (n w k : ℕ) (x t₀ norms :
   t = draws splitmix64 (k * dim S) seed
 
   abbrev c₀ : RunState
-  c₀ = drawn (dim S) k x time seed
+  c₀ = initial splitmix64 (dim S) x time seed k
 
   e′ : GramSchmidt.left r t′ norms′ ≡ orthonormalised t (dim S) norms
   e′ =
@@ -78,7 +78,7 @@ module _ (S : System) (m : List Float) (h : Float) (n w k : ℕ) (x t₀ norms :
   l = draws-length splitmix64 (k * dim S) seed
 
   basis-is : reorthonormalise (dynamics S m h n) c₀ ≡ unless-collapsed (basis (dim S) k t .collapse) c₀ (basis (dim S) k t)
-  unfolding reorthonormalise dynamics
+  unfolding reorthonormalise dynamics initial
   basis-is = rw (drawn-are splitmix64 (dim S) k seed)
 
   -- a collapse
@@ -86,18 +86,18 @@ module _ (S : System) (m : List Float) (h : Float) (n w k : ℕ) (x t₀ norms :
   unfolding warmed-up _then_
   ready-14 ε f =
       let s : reorthonormalise (dynamics S m h n) c₀ ≡ refused (refused-by ε c₀) =
-      basis-is ∙ collapsed-refused (basis (dim S) k t .collapse) c₀ (basis (dim S) k t) ε (sym (ap reported f) ∙ reported-is (dim S) k t norms z (F .few) l (F .norms) r t′ norms′ e′) in
+      basis-is ∙ collapsed-refused (basis (dim S) k t .collapse) c₀ (basis (dim S) k t) ε (sym (ap reported f) ∙ reported-is (dim S) k t norms z (F .few) l (F .norms-many) r t′ norms′ e′) in
       rw s
 
   basis-done : r ≡ Accepted → reorthonormalise (dynamics S m h n) c₀ ≡ ok (run-state (dim S) k x t′ norms′ (fresh Accepted time))
-  unfolding unless-collapsed
+  unfolding unless-collapsed initial
   basis-done f =
-      let g = stands (dim S) k t norms z (F .few) l (F .norms) r t′ norms′ e′ f in
+      let g = stands (dim S) k t norms z (F .few) l (F .norms-many) r t′ norms′ e′ f in
       basis-is ∙ rw (g .whole, g .directions, g .logs, g .reports, take-replicate zero⁺ k 16 (F .few), take-replicate {A = ℕ} 0 k 16 (F .few))
 
   -- 15
   pub ready-15 : (u : Float) → r ≡ Accepted → u ≡ h ⊗ as-float n → finite u ≡ false → refused (refused-at 15 0 c₀) ≡ warmed-up (dynamics S m h n) n w c₀
-  unfolding warmed-up _then_ check-duration dynamics
+  unfolding warmed-up _then_ check-duration dynamics initial
   ready-15 u f ν b = let b′ : finite (h ⊗ as-float n) ≡ false = rw ν at b in rw (basis-done f, b′)
 
   pub ready-warm : (u : Float) (p : Progress) (o : Status) → r ≡ Accepted → u ≡ h ⊗ as-float n → finite u ≡ true → p ≡ fresh Accepted time
@@ -124,8 +124,9 @@ copy-end out from i h g = rw (drop-of-length-le from g, append-nil) (take-all i 
 
 -- ---- as the code has it
 
-pub fresh-stop : (d k : ℕ) (x t n : List Float) (time : Float) (p : Progress) (ε : LyapunovError) (y : List Float) (seed : ℕ) (o : Status) → p ≡ fresh (Refused ε) time → refused (refused-by ε (drawn d k y time seed)) ≡ o
+pub fresh-stop : (d k : ℕ) (x t n : List Float) (time : Float) (p : Progress) (ε : LyapunovError) (y : List Float) (seed : ℕ) (o : Status) → p ≡ fresh (Refused ε) time → refused (refused-by ε (initial splitmix64 d y time seed k)) ≡ o
     → status (p .outcome) (run-state d k x t n p) ≡ o
+unfolding initial
 fresh-stop d k x t n time p ε y seed o e h = rw e h
 
 pub fresh-within : (k w n : ℕ) (u : Outcome) (time : Float) (p : Progress) → finite time ≡ true → p ≡ fresh u time → Within k (w * n) w 0 (fresh Accepted time) p

@@ -6,4 +6,3 @@ pub mod Windows
 pub mod Draws
 pub mod Closing
 pub mod Answers
-pub mod LeadingOutputs

@@ -25,16 +25,16 @@ use Rattle.system.specs.declared.System.{System}
 use Rattle.benettin.specs.Run.{Dynamics, RunState, RunRefusal, Status, ok, refused, steps, window, warm-up, measured, measured-from, with-row, accumulate, row, as-float, Course, _then_}
 use Rattle.benettin.specs.Estimate.{dynamics}
 use Rattle.benettin.specs.Outputs.{flat-row, flat-rows}
-use Rattle.benettin.specs.RunTests.{Ready}
+use Rattle.benettin.specs.Validation.{Ready}
 use Rattle.estimator.specs.Progress.{run-state, refused-by, status, updated, with-sums, Within, Room, Fitting, Recorded, recorded, written, with-row-of}
 use Rattle.estimator.specs.declared.Progress.{Progress}
 use Rattle.estimator.proofs.Lists.{updated-take, updated-length}
 
 -- ---- what is kept beside the definitions
 
-pub fitting-kept : {S : System} {m x t out : List Float} {h : Float} {k : ℕ} (x′ t′ out′ : List Float) → Fitting S m h x t out k
-    → length x′ ≡ length x → length t′ ≡ length t → length out′ ≡ length out → Fitting S m h x′ t′ out′ k
-fitting-kept x′ t′ out′ f a b c =
+pub fitting-kept : {S : System} {m x t norms : List Float} {h : Float} {k : ℕ} (x′ t′ norms′ : List Float) → Fitting S m h x t norms k
+    → length x′ ≡ length x → length t′ ≡ length t → length norms′ ≡ length norms → Fitting S m h x′ t′ norms′ k
+fitting-kept x′ t′ norms′ f a b c =
     record {
       matrix = f .matrix;
       size = f .size;
@@ -43,13 +43,13 @@ fitting-kept x′ t′ out′ f a b c =
       small = rw a (f .small);
       tangents = b ∙ f .tangents ∙ rw a;
       few = f .few;
-      norms = c ∙ f .norms;
+      norms-many = c ∙ f .norms-many;
     }
 
 pub fitting-ready : {S : System} {m x x′ t norms : List Float} {h time : Float} {k steps windows warm-up : ℕ} → Ready S m h time x k steps windows warm-up
     → length x′ ≡ length x → length t ≡ k * length x → length norms ≡ 32 → Fitting S m h x′ t norms k
 fitting-ready r e l n =
-    record { matrix = r .matrix; size = r .size; state = r .state ∙ sym e; some = rw e (r .some); small = rw e (r .small); tangents = l ∙ rw e; few = omega (arith, r .small, r .directions); norms = n }
+    record { matrix = r .matrix; size = r .size; state = r .state ∙ sym e; some = rw e (r .some); small = rw e (r .small); tangents = l ∙ rw e; few = omega (arith, r .small, r .directions); norms-many = n }
 
 pub within-start : (k n : ℕ) (p : Progress) → finite (p .time) ≡ true → Within k (0 * n) 0 0 p p
 within-start k n p h = record { behind = refl; counts = refl; totals = refl; clock = h; steps = omega arith; windows = omega arith; faint = λ i. omega arith }

@@ -27,11 +27,11 @@ use Rattle.gram_schmidt.specs.GramSchmidt.{euclidean, stored, orthonormalised, 
 use Rattle.gram_schmidt.proofs.Finished.{after, numbers-length}
 use Rattle.benettin.specs.Run.{Dynamics, RunState, RunRefusal, ok, refused, steps, unless-collapsed, reorthonormalise, with-basis, count-faint, window, _then_}
 use Rattle.benettin.specs.Estimate.{dynamics}
-use Rattle.benettin.specs.Window.{Advanced, Windowed, advance-steps, left, windowed, orthonormalised-after, with-steps, status-of}
+use Rattle.benettin.specs.Window.{Advanced, Windowed, advance-steps, observed, windowed, orthonormalised-after, with-steps, status-of}
 use Rattle.benettin.specs.declared.window.Advance.{Advance}
 use Rattle.benettin.proofs.Steps.{Follows, steps-follow}
 use Rattle.benettin.proofs.Prefix.{orthonormalise-sized, orthonormalise-whole}
-use Rattle.estimator.specs.Progress.{run-state, refused-by, status, moved, with-faint, updated, counted, Within, Fitting}
+use Rattle.estimator.specs.Progress.{run-state, refused-by, status, after-steps, with-faint, updated, counted, Within, Fitting}
 use Rattle.estimator.specs.declared.Progress.{Progress}
 use Rattle.estimator.proofs.Loops.{passed-of}
 use Rattle.estimator.proofs.Lists.{updated-take, updated-drop, updated-length, counted-more}
@@ -46,26 +46,26 @@ unfolding unless-collapsed
 collapsed-refused none c b ε e = let z : _≡_ {A = ℕ} 0 1 = cc in absurd (omega arith)
 collapsed-refused (some j) c b ε e = let z : refusal ε ≡ refuse 14 j = cc in rw z
 
--- what stands where nothing collapsed: the directions in t′, and the logarithms and squared lengths in out′
-pub record Stands (d k : ℕ) (t t′ out′ : List Float) : Type 0 where
+-- what stands where nothing collapsed: the directions in t′, and the logarithms and squared lengths in norms′
+pub record Stands (d k : ℕ) (t t′ norms′ : List Float) : Type 0 where
   pub whole : basis d k t .collapse ≡ none
   pub directions : chunks d k t′ ≡ basis d k t .directions
-  pub logs : take k out′ ≡ basis d k t .logs
-  pub reports : take k (drop k out′) ≡ basis d k t .reports
-  pub many : length (take k (drop k out′)) ≡ k
+  pub logs : take k norms′ ≡ basis d k t .logs
+  pub reports : take k (drop k norms′) ≡ basis d k t .reports
+  pub many : length (take k (drop k norms′)) ≡ k
 
 no-collapse : (o : Option ℕ) → none ≡ collapse-refusal o → o ≡ none
 no-collapse none e = refl
 no-collapse (some j) e = let z : _≡_ {A = ℕ} 0 1 = cc in absurd (omega arith)
 
-module _ (d k : ℕ) (t out : List Float) (h : 0 < d) (g : k ≤ 16) (l : length t ≡ k * d) (m : length out ≡ 32) where
-  stored-is : orthonormalised t d out ≡ stored k t out (basis d k t)
+module _ (d k : ℕ) (t norms : List Float) (h : 0 < d) (g : k ≤ 16) (l : length t ≡ k * d) (m : length norms ≡ 32) where
+  stored-is : orthonormalised t d norms ≡ stored k t norms (basis d k t)
   unfolding orthonormalised
   stored-is =
       let e : length t / d ≡ k = ap (λ (n : ℕ). n / d) l ∙ mul-div-cancel k h in
-      rw (e, ne-eqb d 0 (λ z. omega arith), le-ltb (length out) (2 * k) (omega arith))
+      rw (e, ne-eqb d 0 (λ z. omega arith), le-ltb (length norms) (2 * k) (omega arith))
 
-  module _ (r : Outcome) (t′ out′ : List Float) (e : GramSchmidt.left r t′ out′ ≡ orthonormalised t d out) where
+  module _ (r : Outcome) (t′ norms′ : List Float) (e : GramSchmidt.left r t′ norms′ ≡ orthonormalised t d norms) where
     pub reported-is : reported r ≡ collapse-refusal (basis d k t .collapse)
     unfolding stored
     reported-is = ap (λ (x : GramSchmidt.Left). x .refusal) (e ∙ stored-is)
@@ -74,8 +74,8 @@ module _ (d k : ℕ) (t out : List Float) (h : 0 < d) (g : k ≤ 16) (l : length
       whole : basis d k t .collapse ≡ none
       whole = no-collapse (basis d k t .collapse) (sym (ap reported f) ∙ reported-is)
 
-      left-is : GramSchmidt.left r t′ out′ ≡ holds none (concat (basis d k t .directions) ++ drop (k * d) t) (basis d k t .logs ++ (basis d k t .reports ++ drop (k + k) out))
-      left-is = e ∙ stored-is ∙ after d k t out (omega arith) (omega arith) whole
+      whole-is : GramSchmidt.left r t′ norms′ ≡ holds none (concat (basis d k t .directions) ++ drop (k * d) t) (basis d k t .logs ++ (basis d k t .reports ++ drop (k + k) norms))
+      whole-is = e ∙ stored-is ∙ after d k t norms (omega arith) (omega arith) whole
 
       logs-length : length (basis d k t .logs) ≡ k
       logs-length = numbers-length [] (chunks d k t) whole .0 ∙ chunks-length d k t
@@ -87,20 +87,20 @@ module _ (d k : ℕ) (t out : List Float) (h : 0 < d) (g : k ≤ 16) (l : length
       directions-are =
           let n : length (basis d k t .directions) ≡ k = orthonormalise-whole euclidean [] (chunks d k t) .0 ∙ chunks-length d k t in
           let s : Sized d (basis d k t .directions) = orthonormalise-sized euclidean d [] (chunks d k t) (chunks-sized d k t (omega arith)) in
-          ap (λ (x : GramSchmidt.Left). chunks d k (x .tangents)) left-is
+          ap (λ (x : GramSchmidt.Left). chunks d k (x .tangents)) whole-is
           ∙ ap (λ (j : ℕ). chunks d j (concat (basis d k t .directions) ++ drop (k * d) t)) (sym n)
           ∙ chunks-concat d (basis d k t .directions) (drop (k * d) t) s
 
-      logs-are : take k out′ ≡ basis d k t .logs
-      logs-are = ap (λ (x : GramSchmidt.Left). take k (x .numbers)) left-is ∙ take-at (basis d k t .logs) _ k logs-length
+      logs-are : take k norms′ ≡ basis d k t .logs
+      logs-are = ap (λ (x : GramSchmidt.Left). take k (x .numbers)) whole-is ∙ take-at (basis d k t .logs) _ k logs-length
 
-      reports-are : take k (drop k out′) ≡ basis d k t .reports
+      reports-are : take k (drop k norms′) ≡ basis d k t .reports
       reports-are =
-          ap (λ (x : GramSchmidt.Left). take k (drop k (x .numbers))) left-is
-          ∙ ap (take k) (drop-at (basis d k t .logs) (basis d k t .reports ++ drop (k + k) out) k logs-length)
+          ap (λ (x : GramSchmidt.Left). take k (drop k (x .numbers))) whole-is
+          ∙ ap (take k) (drop-at (basis d k t .logs) (basis d k t .reports ++ drop (k + k) norms) k logs-length)
           ∙ take-at (basis d k t .reports) _ k reports-length
 
-      pub stands : Stands d k t t′ out′
+      pub stands : Stands d k t t′ norms′
       stands = record { whole = whole; directions = directions-are; logs = logs-are; reports = reports-are; many = ap length reports-are ∙ reports-length }
 
 -- ---- a window
@@ -146,7 +146,7 @@ module _ (S : System) (m : List Float) (h : Float) (n k : ℕ) (x t norms : List
 
   module _ (a : Advance) (x′ t′ norms′ : List Float) where
     abbrev Ended : Option Refusal → Type 0
-    Ended o = windowed (left a x′ t′) norms′ ≡ orthonormalised-after o A norms
+    Ended o = windowed (observed a x′ t′) norms′ ≡ orthonormalised-after o A norms
 
     -- a window that is refused by 14 has made its steps too
     made-by : (o : Option Refusal) → Ended o → (a .steps ≡ A .steps) × (a .time ≡ A .time) × (x′ ≡ A .state)
@@ -155,7 +155,7 @@ module _ (S : System) (m : List Float) (h : Float) (n k : ℕ) (x t norms : List
 
     orthonormalised-is : Ended none → GramSchmidt.left (a .outcome) t′ norms′ ≡ orthonormalised (A .tangents) (dim S) norms
     orthonormalised-is e =
-        ap (λ (w : Windowed). GramSchmidt.holds (w .advanced .refusal) (w .advanced .tangents) (w .numbers)) e
+        ap (λ (w : Windowed). GramSchmidt.holds (w .advanced .refusal) (w .advanced .tangents) (w .norms)) e
         ∙ ap (λ (j : ℕ). orthonormalised (A .tangents) j norms) (follows .3 ∙ sym (fit .state))
 
     -- refused in a step, or by a collapse
@@ -168,11 +168,11 @@ module _ (S : System) (m : List Float) (h : Float) (n k : ℕ) (x t norms : List
         let b = basis (dim S) k (A .tangents) in
         sym
         (window-broken M n c₀ c₁ (refused-by ε c₁) (sym stepped ∙ rw f)
-        (collapsed-refused (b .collapse) c₁ b ε (sym (ap reported v) ∙ reported-is (dim S) k (A .tangents) norms dimension-above (fit .few) tangents-many (fit .norms) (a .outcome) t′ norms′ (orthonormalised-is e))))
+        (collapsed-refused (b .collapse) c₁ b ε (sym (ap reported v) ∙ reported-is (dim S) k (A .tangents) norms dimension-above (fit .few) tangents-many (fit .norms-many) (a .outcome) t′ norms′ (orthonormalised-is e))))
 
     -- or not
     counted-by : (o : Option Refusal) → A .refusal ≡ o → Ended o → a .outcome ≡ Accepted → (faint : List ℕ) → k ≤ length (p .faint) → faint ≡ updated counted (p .faint) (take (k + k - k) (drop k norms′))
-        → ok (run-state (dim S) k (A .state) t′ norms′ (with-faint (moved p Accepted (A .time) (A .steps)) faint)) ≡ window M n c₀
+        → ok (run-state (dim S) k (A .state) t′ norms′ (with-faint (after-steps p Accepted (A .time) (A .steps)) faint)) ≡ window M n c₀
     unfolding reorthonormalise unless-collapsed count-faint dynamics
     counted-by (some r) f e v faint len i =
         let g : some r ≡ none = sym f ∙ sym (ap (λ (w : Windowed). w .advanced .refusal) e) ∙ ap reported v in
@@ -180,7 +180,7 @@ module _ (S : System) (m : List Float) (h : Float) (n k : ℕ) (x t norms : List
         absurd (omega arith)
     counted-by none f e v faint len i =
         let b = basis (dim S) k (A .tangents) in
-        let g = stands (dim S) k (A .tangents) norms dimension-above (fit .few) tangents-many (fit .norms) (a .outcome) t′ norms′ (orthonormalised-is e) v in
+        let g = stands (dim S) k (A .tangents) norms dimension-above (fit .few) tangents-many (fit .norms-many) (a .outcome) t′ norms′ (orthonormalised-is e) v in
         let u : k + k - k ≡ k = omega arith in
         let F : take k faint ≡ zip counted (take k (p .faint)) (b .reports) =
         ap (take k) (i ∙ rw u) ∙ updated-take counted (p .faint) (take k (drop k norms′)) k (g .many) len ∙ rw (g .reports) in
@@ -190,10 +190,10 @@ module _ (S : System) (m : List Float) (h : Float) (n k : ℕ) (x t norms : List
       pub window-made : (a .steps ≤ n) × (finite (a .time) ≡ true)
       window-made = let g = made-by (A .refusal) E in (rw (g .0) (omega (arith, follows .1)), rw (g .1) (follows .2))
 
-      pub window-stopped : (q : Progress) (ε : LyapunovError) → q ≡ moved p (a .outcome) (a .time) (a .steps) → a .outcome ≡ Refused ε → status (q .outcome) (run-state (dim S) k x′ t′ norms′ q) ≡ window M n c₀
+      pub window-stopped : (q : Progress) (ε : LyapunovError) → q ≡ after-steps p (a .outcome) (a .time) (a .steps) → a .outcome ≡ Refused ε → status (q .outcome) (run-state (dim S) k x′ t′ norms′ q) ≡ window M n c₀
       window-stopped q ε e v = rw (e, v, made-by (A .refusal) E .0) (stopped-by (A .refusal) refl E ε v)
 
-      pub window-done : (q u : Progress) → a .outcome ≡ Accepted → k ≤ length (p .faint) → q ≡ moved p (a .outcome) (a .time) (a .steps)
+      pub window-done : (q u : Progress) → a .outcome ≡ Accepted → k ≤ length (p .faint) → q ≡ after-steps p (a .outcome) (a .time) (a .steps)
           → u ≡ with-faint q (updated counted (q .faint) (take (k + k - k) (drop k norms′))) → status (u .outcome) (run-state (dim S) k x′ t′ norms′ u) ≡ window M n c₀
       window-done q u v len eq eu =
           let g = made-by (A .refusal) E in
@@ -201,10 +201,10 @@ module _ (S : System) (m : List Float) (h : Float) (n k : ℕ) (x t norms : List
 
 -- ---- what is kept beside it
 
-pub within-moved : (k n : ℕ) (p q : Progress) (v : Outcome) (time : Float) (made : ℕ) → finite time ≡ true → made ≤ n → q ≡ moved p v time made → Within k n 1 0 p q
-within-moved k n p q v time made f h e = rw e (record { behind = refl; counts = refl; totals = refl; clock = f; steps = omega arith; windows = omega arith; faint = λ i. omega arith })
+pub within-steps : (k n : ℕ) (p q : Progress) (v : Outcome) (time : Float) (made : ℕ) → finite time ≡ true → made ≤ n → q ≡ after-steps p v time made → Within k n 1 0 p q
+within-steps k n p q v time made f h e = rw e (record { behind = refl; counts = refl; totals = refl; clock = f; steps = omega arith; windows = omega arith; faint = λ i. omega arith })
 
-pub within-counted : (k n : ℕ) (p q u : Progress) (v : Outcome) (time : Float) (made : ℕ) (squares : List Float) → finite time ≡ true → made ≤ n → q ≡ moved p v time made → length squares ≤ k
+pub within-counted : (k n : ℕ) (p q u : Progress) (v : Outcome) (time : Float) (made : ℕ) (squares : List Float) → finite time ≡ true → made ≤ n → q ≡ after-steps p v time made → length squares ≤ k
     → u ≡ with-faint q (updated counted (q .faint) squares) → Within k n 1 0 p u
 within-counted k n p q u v time made squares f h eq l eu =
     rw (eu, eq)

@@ -1,4 +1,3 @@
--- What the contracts of the private functions cite: the run under way as the code holds it; and demand 3 of what the code leaves. The run itself is defined in crate benettin.
+-- What the contracts of the private functions cite: the run under way as the code holds it. A reader may skip it: the run and what is stated of it are in crate benettin.
 pub mod Progress
 pub mod Start
-pub mod LeadingOutputs

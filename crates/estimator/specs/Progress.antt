@@ -48,8 +48,8 @@ abbrev pub status : Outcome → RunState → Status
 status v c = status-of (reported v) c
 
 -- p after so many steps more, by an outcome, at another time
-abbrev pub moved : Progress → Outcome → Float → ℕ → Progress
-moved p v time made = record { outcome = v; windows = p .windows; steps = p .steps + made; time = time; faint = p .faint; sums = p .sums }
+abbrev pub after-steps : Progress → Outcome → Float → ℕ → Progress
+after-steps p v time made = record { outcome = v; windows = p .windows; steps = p .steps + made; time = time; faint = p .faint; sums = p .sums }
 
 abbrev pub with-faint : Progress → List ℕ → Progress
 with-faint p f = record { outcome = p .outcome; windows = p .windows; steps = p .steps; time = p .time; faint = f; sums = p .sums }
@@ -87,8 +87,8 @@ pub record Room (made seen done : ℕ) (p : Progress) : Type 0 where
   pub windows : p .windows + done < 2 ^ 32
   pub faint : (i : ℕ) → getD (p .faint) i 0 + seen < 2 ^ 64
 
--- what fits together: a system, a matrix, a step size, a state, k directions and the numbers that come with them
-pub record Fitting (S : System) (m : List Float) (h : Float) (x t numbers : List Float) (k : ℕ) : Type 0 where
+-- what fits together: a system, a matrix, a step size, a state, k directions and the slice of their logarithms and squared lengths
+pub record Fitting (S : System) (m : List Float) (h : Float) (x t norms : List Float) (k : ℕ) : Type 0 where
   pub matrix : matrix-fits S m ≡ true
   pub size : positive h ≡ true
   pub state : dim S ≡ length x
@@ -96,7 +96,7 @@ pub record Fitting (S : System) (m : List Float) (h : Float) (x t numbers : List
   pub small : length x ≤ 16
   pub tangents : length t ≡ k * length x
   pub few : k ≤ 16
-  pub norms : length numbers ≡ 32
+  pub norms-many : length norms ≡ 32
 
 -- the rows slice, and how the run went on
 pub record Recorded : Type 0 where

@@ -1,5 +1,4 @@
 // The entry points.
-ghost use mathlib.Core.Path.{_≡_};
 ghost use Rattle.floats.specs.Arithmetic.{zero⁺};
 ghost use Rattle.benettin.specs.Estimate as Estimate;
 ghost use Rattle.benettin.specs.Outputs as Outputs;
@@ -19,10 +18,10 @@ pub fn estimate_spectrum_at(
     exponents: &mut [f64],
     final_state: &mut [f64],
 ) -> SpectrumEstimate
-    ensures { λ r. ⌜ Outputs.left r (now (rows .exit)) (now (exponents .exit)) (now («final_state» .exit))
-        ≡ Outputs.estimated (Estimate.input system (now (matrix .entry)) time (now (state .entry)) config) (config .«top_k») (now (rows .entry)) (now (exponents .entry)) (now («final_state» .entry)) ⌝ }
+    ensures { λ r. ⌜ Outputs.Meets (Estimate.input system (now (matrix .entry)) time (now (state .entry)) config) (config .«top_k»)
+        (Outputs.call (now (rows .entry)) (now (exponents .entry)) (now («final_state» .entry)) (Outputs.observed r (now (rows .exit)) (now (exponents .exit)) (now («final_state» .exit)))) ⌝ }
 {
-    if let Outcome::Refused(e) = benettin::tests::validate(
+    if let Outcome::Refused(e) = benettin::validation::validate(
         system,
         matrix,
         time,
@@ -62,8 +61,8 @@ pub fn estimate_spectrum(
     exponents: &mut [f64],
     final_state: &mut [f64],
 ) -> SpectrumEstimate
-    ensures { λ r. ⌜ Outputs.left r (now (rows .exit)) (now (exponents .exit)) (now («final_state» .exit))
-        ≡ Outputs.estimated (Estimate.input system (now (matrix .entry)) zero⁺ (now (state .entry)) config) (config .«top_k») (now (rows .entry)) (now (exponents .entry)) (now («final_state» .entry)) ⌝ }
+    ensures { λ r. ⌜ Outputs.Meets (Estimate.input system (now (matrix .entry)) zero⁺ (now (state .entry)) config) (config .«top_k»)
+        (Outputs.call (now (rows .entry)) (now (exponents .entry)) (now («final_state» .entry)) (Outputs.observed r (now (rows .exit)) (now (exponents .exit)) (now («final_state» .exit)))) ⌝ }
 {
     estimate_spectrum_at(
         system,
@@ -89,9 +88,8 @@ pub fn estimate_largest(
     exponents: &mut [f64],
     final_state: &mut [f64],
 ) -> SpectrumEstimate
-    ensures { λ r. ⌜ Outputs.left r (now (rows .exit)) (now (exponents .exit)) (now («final_state» .exit))
-        ≡ Outputs.estimated (Estimate.input system (now (matrix .entry)) zero⁺ (now (state .entry)) (Estimate.settings 1 «step_size» «steps_per_window» windows 0 Estimate.default-seed)) 1
-        (now (rows .entry)) (now (exponents .entry)) (now («final_state» .entry)) ⌝ }
+    ensures { λ r. ⌜ Outputs.Meets (Estimate.input system (now (matrix .entry)) zero⁺ (now (state .entry)) (Estimate.settings 1 «step_size» «steps_per_window» windows 0 Estimate.default-seed)) 1
+        (Outputs.call (now (rows .entry)) (now (exponents .entry)) (now («final_state» .entry)) (Outputs.observed r (now (rows .exit)) (now (exponents .exit)) (now («final_state» .exit)))) ⌝ }
 {
     let config = BenettinConfig {
         top_k: 1,

@@ -1,16 +1,17 @@
 // Benettin's estimate of the leading Lyapunov exponents (source: estimator.rs).
 //
 // `estimate_spectrum_at` (estimate.rt) is the run that crate benettin defines: its answer and every float left in rows,
-// exponents and final state equal specs/Outputs.antt there, for every input. specs/LeadingOutputs.antt states demand 3 of
-// what this function answers and leaves, and proofs/LeadingOutputs.antt proves it. This file has the run from the draw to
-// the answer; crate benettin has the tests, the draw and a single window. The state, the directions and their numbers lie in
-// arrays on the stack; nothing is allocated.
+// exponents and final state equal specs/Outputs.antt there, for every input. Its contract is `Meets`, the definition of which
+// specs/Refusals.antt there states demand 1 and specs/LeadingOutputs.antt demand 3. This file has the run from the draw to
+// the answer; crate benettin has the tests, the draw and a single window. The state, the directions, their logarithms and
+// squared lengths lie in arrays on the stack; nothing is allocated.
 pub mod estimate;
 
 ghost use mathlib.Core.Path.{_≡_};
 ghost use Prim.Native.Nat.{ℕ, _+_, _*_, _≤_, _<_, _^_};
 ghost use mathlib.Core.Bool.{true};
 ghost use mathlib.Core.List.{_∷_, _++_, map};
+ghost use mathlib.Core.Option.{none};
 ghost use lib.ListN.{length, take, getD};
 ghost use lib.Ieee.Scale.{finite};
 ghost use Rattle.floats.specs.Arithmetic.{_⊕_, _⊗_, _⊘_};
@@ -18,7 +19,7 @@ ghost use Rattle.system.specs.System.{dim};
 ghost use Rattle.benettin.specs.Run as Run;
 ghost use Rattle.benettin.specs.Estimate as Estimate;
 ghost use Rattle.benettin.specs.Outputs as Outputs;
-ghost use Rattle.benettin.specs.RunTests as Tests;
+ghost use Rattle.benettin.specs.Validation as Validation;
 ghost use Rattle.estimator.specs.Progress as Under;
 ghost use Rattle.estimator.specs.Start as Start;
 use benettin::BenettinConfig;
@@ -38,9 +39,9 @@ struct Progress {
 }
 
 // The progress after so many steps more, at another time.
-fn moved(from: Progress, outcome: Outcome, time: f64, made: u64) -> Progress
+fn after_steps(from: Progress, outcome: Outcome, time: f64, made: u64) -> Progress
     requires { ⌜ from .steps + made < 2 ^ 64 ⌝ }
-    ensures { λ r. ⌜ r ≡ Under.moved from outcome time made ⌝ }
+    ensures { λ r. ⌜ r ≡ Under.after-steps from outcome time made ⌝ }
 {
     let faint = from.faint;
     let sums = from.sums;
@@ -155,7 +156,7 @@ fn window(
         from.time,
     );
     let v = a.outcome;
-    let q = moved(from, v, a.time, a.steps);
+    let q = after_steps(from, v, a.time, a.steps);
     let Outcome::Accepted = v else {
         return q;
     };
@@ -295,7 +296,7 @@ fn prepare(
     requires { ⌜ Under.Fitting system (now matrix) (config .«step_size») (now state) (now tangents) (now norms) (config .«top_k»)
         × (config .«steps_per_window» ≤ Estimate.limit) × (config .«transient_windows» ≤ Estimate.limit) × (finite time ≡ true) ⌝ }
     ensures { λ r. ⌜ (Under.status (r .outcome) (Under.run-state (dim system) (config .«top_k») (now (state .exit)) (now (tangents .exit)) (now (norms .exit)) r)
-        ≡ Run.warmed-up (Under.dynamics-of system (now (matrix .entry)) config) (config .«steps_per_window») (config .«transient_windows») (Start.drawn (dim system) (config .«top_k») (now (state .entry)) time (config .seed)))
+        ≡ Run.warmed-up (Under.dynamics-of system (now (matrix .entry)) config) (config .«steps_per_window») (config .«transient_windows») (Run.initial Estimate.splitmix64 (dim system) (now (state .entry)) time (config .seed) (config .«top_k»)))
         × Under.Within (config .«top_k») (config .«transient_windows» * config .«steps_per_window») (config .«transient_windows») 0 (Start.fresh Outcome.Accepted time) r ⌝ }
 {
     if let Outcome::Refused(e) = benettin::basis::initialize_basis(
@@ -338,7 +339,7 @@ fn refused(error: LyapunovError, windows: u64, steps: u64) -> SpectrumEstimate
     }
 }
 
-// The answer of a run, and what is left of it in two outputs.
+// The answer of a run, and what it writes to two outputs.
 fn close(
     state: &[f64],
     config: BenettinConfig,
@@ -384,11 +385,11 @@ fn run(
     final_state: &mut [f64],
     config: BenettinConfig,
 ) -> SpectrumEstimate
-    requires { ⌜ Tests.Ready system (now matrix) (config .«step_size») time (now state) (config .«top_k») (config .«steps_per_window») (config .windows) (config .«transient_windows») × (length (now tangents) ≡ config .«top_k» * length (now state))
+    requires { ⌜ Validation.Ready system (now matrix) (config .«step_size») time (now state) (config .«top_k») (config .«steps_per_window») (config .windows) (config .«transient_windows») × (length (now tangents) ≡ config .«top_k» * length (now state))
         × (config .windows * (1 + 2 * config .«top_k») ≤ length (now rows)) × (config .«top_k» ≤ length (now exponents)) × (length (now state) ≤ length (now «final_state»)) ⌝ }
-    ensures { λ r. ⌜ Outputs.left r (now (rows .exit)) (now (exponents .exit)) (now («final_state» .exit))
-        ≡ Outputs.outputs (config .«top_k») (config .windows) (now (rows .entry)) (now (exponents .entry)) (now («final_state» .entry))
-        (Start.answered (Under.dynamics-of system (now (matrix .entry)) config) (config .windows) (config .«top_k») (Start.course-of system (now (matrix .entry)) config (now (state .entry)) time)) ⌝ }
+    ensures { λ r. ⌜ Outputs.observed r (now (rows .exit)) (now (exponents .exit)) (now («final_state» .exit))
+        ≡ Outputs.outputs (config .windows) (now (rows .entry)) (now (exponents .entry)) (now («final_state» .entry))
+        (Run.run-past none (Estimate.problem (Estimate.input system (now (matrix .entry)) time (now (state .entry)) config)) (config .«top_k»)) ⌝ }
 {
     let mut norms = [0.0; 32];
     let ready = prepare(system, matrix, time, state, tangents, &mut norms, config);

@@ -36,7 +36,7 @@ abbrev by-code : tie.After-window → RunState
 by-code c = let a = start c .args in let o = c .window in run-state (dim (a .system)) (a .config .«top_k») (o .last .1 .1 .0) (o .last .1 .1 .1 .0) (o .last .1 .1 .1 .1 .0) (o .result)
 
 norms-many : (c : tie.After-window) → length (c .window .last .1 .1 .1 .1 .0) ≡ 32
-norms-many c = c .window .kept .1 .1 .1 .1 .0 ∙ start c .pre .0 .norms
+norms-many c = c .window .kept .1 .1 .1 .1 .0 ∙ start c .pre .0 .norms-many
 
 sums-many : (c : tie.After-window) → length (c .window .result .sums) ≡ 16
 sums-many c = c .window .ensures .1 .totals ∙ start c .pre .1 .totals

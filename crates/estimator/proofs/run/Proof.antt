@@ -1,15 +1,17 @@
 -- `estimator::run` meets its contract.
 use borrow.Author.Needs.{needs}
 use native.Mathlib.Omega.{arith}
-use mathlib.Core.Path.{_≡_, refl, _∙_}
+use mathlib.Core.Path.{_≡_, refl, ap, _∙_}
 use lib.ListN.{length}
 use Rattle.system.specs.System.{dim}
+use Rattle.benettin.specs.Run.{initial}
+use Rattle.benettin.specs.Estimate.{input, splitmix64}
+use Rattle.benettin.specs.Outputs.{outputs}
 use Rattle.error.specs.declared.Outcome.the-variants.{Accepted}
 use Rattle.estimator.specs.Progress.{dynamics-of}
-use Rattle.estimator.specs.Start.{course-of, drawn}
 use Rattle.estimator.proofs.Loops.{fitting-ready}
 use Rattle.estimator.proofs.Draws.{course-from, room-ready}
-use Rattle.estimator.proofs.Answers.{ended-is}
+use Rattle.estimator.proofs.Answers.{ended-is, course-followed, past-tests}
 use Rattle.estimator.proofs.run.Statement.{statement}
 use Rattle.estimator.proofs.run.Tie as tie
 
@@ -76,11 +78,13 @@ returns c =
     let r = preparing b .prepare in
     let m = b .measure in
     let e = c .before .before .before .before .close in
+    let i = input (a .system) (a .matrix .now) (a .time) (a .state .now) g in
     ended-is (a .system) (a .matrix .now) (g .«step_size») (g .«steps_per_window») (g .«top_k») (g .windows) (m .last .1 .1 .0) (m .last .1 .1 .1 .0) (m .last .1 .1 .1 .1 .0) (m .result) (a .rows .now) (a .exponents .now) (a .final-state .now)
-    (course-of (a .system) (a .matrix .now) g (a .state .now) (a .time))
-    (m .last .1 .1 .1 .1 .1 .0) (e .last .1 .1 .0) (e .last .1 .1 .1 .0) (e .result) (m .ensures .1 .behind ∙ r .ensures .1 .behind) (omega (arith, s .small, s .directions))
-    (m .ensures .0 ∙ course-from (dynamics-of (a .system) (a .matrix .now) g) (g .«steps_per_window») (g .«transient_windows») (g .windows) (drawn (dim (a .system)) (g .«top_k») (a .state .now) (a .time) (g .seed)) (a .rows .now) _ (r .ensures .0))
+    (course-followed i (g .«top_k»))
+    (m .last .1 .1 .1 .1 .1 .0) (e .last .1 .1 .0) (e .last .1 .1 .1 .0) (e .result) (m .ensures .1 .counts ∙ r .ensures .1 .counts) (m .ensures .1 .behind ∙ r .ensures .1 .behind) (omega (arith, s .small, s .directions))
+    (m .ensures .0 ∙ course-from (dynamics-of (a .system) (a .matrix .now) g) (g .«steps_per_window») (g .«transient_windows») (g .windows) (initial splitmix64 (dim (a .system)) (a .state .now) (a .time) (g .seed) (g .«top_k»)) (a .rows .now) _ (r .ensures .0))
     (e .ensures)
+    ∙ ap (outputs (g .windows) (a .rows .now) (a .exponents .now) (a .final-state .now)) (past-tests i (g .«top_k»))
 
 pub run-spec : {M : Type 1} → statement M
 run-spec =

@@ -7,7 +7,7 @@ use mathlib.Core.Bool.{true}
 use lib.ListN.{length, length-take}
 use lib.Ieee.Scale.{finite}
 use Rattle.estimator.specs.declared.Progress.{Progress}
-use Rattle.estimator.proofs.Windows.{window-made, window-stopped, window-done, within-moved, within-counted}
+use Rattle.estimator.proofs.Windows.{window-made, window-stopped, window-done, within-steps, within-counted}
 use Rattle.estimator.proofs.window.Statement.{statement}
 use Rattle.estimator.proofs.window.Tie as tie
 
@@ -15,7 +15,7 @@ use Rattle.estimator.proofs.window.Tie as tie
 abbrev start : tie.After-complete-window → tie.Start
 start c = c .before .before .before .before .before .before .before .before
 
-abbrev completed : tie.After-moved → tie.After-complete-window
+abbrev completed : tie.After-after-steps → tie.After-complete-window
 completed c = c .before .before .before .before .before .before .before
 
 made : (c : tie.After-complete-window) → (c .complete-window .result .steps ≤ start c .args .config .«steps_per_window») × (finite (c .complete-window .result .time) ≡ true)
@@ -24,8 +24,8 @@ made c = let s = start c in let o = c .complete-window in window-made _ _ _ _ _ 
 complete-window-requires : tie.Need-complete-window-requires
 complete-window-requires c κs = search needs
 
-moved-requires : tie.Need-moved-requires
-moved-requires c κs = let b = c .before .before .before .before .before .before in omega (arith, made b .0, start b .pre .1 .steps)
+after-steps-requires : tie.Need-after-steps-requires
+after-steps-requires c κs = let b = c .before .before .before .before .before .before in omega (arith, made b .0, start b .pre .1 .steps)
 
 enum-told : tie.Need-enum-told
 enum-told c = search needs
@@ -48,9 +48,9 @@ returns c =
     let b = completed w in
     let s = start b in
     let o = b .complete-window in
-    let q = w .moved in (
+    let q = w .after-steps in (
       window-stopped _ _ _ _ _ _ _ _ (s .args .from) (s .pre .0) (s .pre .1 .clock) (o .result) _ _ _ (o .ensures) (q .result) _ (q .ensures) (c .enum-told2 .given .1),
-      within-moved _ _ _ (q .result) _ _ _ (made b .1) (made b .0) (q .ensures),
+      within-steps _ _ _ (q .result) _ _ _ (made b .1) (made b .0) (q .ensures),
     )
 
 add-e : tie.Need-add-e
@@ -66,13 +66,13 @@ part-count-faint-start : tie.Need-part-count-faint-start
 part-count-faint-start c = search needs
 
 part-count-faint-end : tie.Need-part-count-faint-end
-part-count-faint-end c = let b = completed (c .before .before .before) in omega (arith, start b .pre .0 .few, start b .pre .0 .norms, b .complete-window .kept .1 .1 .1 .1 .0)
+part-count-faint-end c = let b = completed (c .before .before .before) in omega (arith, start b .pre .0 .few, start b .pre .0 .norms-many, b .complete-window .kept .1 .1 .1 .1 .0)
 
 count-faint-requires : tie.Need-count-faint-requires
 count-faint-requires c κs =
     let w = c .before .before .before .before in
     let p = start (completed w) .pre in
-    let q = w .moved .ensures in
+    let q = w .after-steps .ensures in
     (rw length-take (omega (arith, p .0 .few)), rw q (p .1 .faint), ap (λ (r : Progress). length (r .faint)) q ∙ p .1 .counts)
 
 same-length-4 : tie.Need-same-length-4
@@ -90,7 +90,7 @@ returns-2 c =
     let b = completed w in
     let s = start b in
     let o = b .complete-window in
-    let q = w .moved in (
+    let q = w .after-steps in (
       window-done _ _ _ _ _ _ _ _ (s .args .from) (s .pre .0) (s .pre .1 .clock) (o .result) _ _ _ (o .ensures) (q .result) (c .count-faint .result) (c .before .before .before .enum-told .given .1)
           (omega (arith, s .pre .1 .counts, s .pre .0 .few)) (q .ensures) (c .count-faint .ensures),
       within-counted _ _ _ (q .result) (c .count-faint .result) _ _ _ _ (made b .1) (made b .0) (q .ensures) (rw length-take (omega arith)) (c .count-faint .ensures),
@@ -101,7 +101,7 @@ window-spec =
     tie.close
     (tie.spec
     complete-window-requires
-    moved-requires
+    after-steps-requires
     enum-told
     enum-told-2
     same-length

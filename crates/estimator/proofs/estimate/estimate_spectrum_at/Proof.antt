@@ -10,9 +10,11 @@ use lib.Seq.{length-take-le}
 use lib.Ieee.{Float}
 use Rattle.error.specs.Refusal.{reported}
 use Rattle.error.specs.Tests.{first-failing}
-use Rattle.benettin.specs.Estimate.{Input, input}
-use Rattle.benettin.specs.RunTests.{Ready, run-tests}
-use Rattle.benettin.proofs.RunTests.{ready, tests-are}
+use Rattle.benettin.specs.Estimate.{Input, input, problem}
+use Rattle.benettin.specs.Run.{OutputLengths, run-tests, run-past}
+use Rattle.benettin.specs.Outputs.{lengths-of, outputs}
+use Rattle.benettin.specs.Validation.{Ready}
+use Rattle.benettin.proofs.RunTests.{ready}
 use Rattle.estimator.proofs.Answers.{refused-by-tests, run-by-tests, front, few-entries, ready-front}
 use Rattle.estimator.proofs.estimate.estimate_spectrum_at.Statement.{statement}
 use Rattle.estimator.proofs.estimate.estimate_spectrum_at.Tie as tie
@@ -31,12 +33,15 @@ module _ (c : tie.After-enum-told) where
   abbrev d : ℕ
   d = length (s .args .state .now)
 
-  passed : none ≡ first-failing (run-tests (input-of s) k (length (s .args .rows .now)) (length (s .args .exponents .now)) (length (s .args .final-state .now)))
+  abbrev o : OutputLengths
+  o = lengths-of (s .args .rows .now) (s .args .exponents .now) (s .args .final-state .now)
+
+  passed : none ≡ first-failing (run-tests (problem (input-of s)) k o)
   passed = sym (ap reported (c .enum-told .given .1)) ∙ c .before .before .validate .ensures
 
   known : Ready (s .args .system) (s .args .matrix .now) (s .args .config .«step_size») (s .args .time) (s .args .state .now) k (s .args .config .«steps_per_window») (s .args .config .windows) (s .args .config .«transient_windows»)
-      × (s .args .config .windows * (1 + 2 * k) ≤ length (s .args .rows .now)) × (k ≤ length (s .args .exponents .now)) × (d ≤ length (s .args .final-state .now))
-  known = ready (input-of s) k (length (s .args .rows .now)) (length (s .args .exponents .now)) (length (s .args .final-state .now)) passed
+      × (s .args .config .windows * (1 + 2 * k) ≤ o .rows) × (k ≤ o .exponents) × (d ≤ o .state)
+  known = ready (input-of s) k o passed
 
   entries : k * d ≤ 256
   entries = few-entries k d (known .0 .directions) (known .0 .small)
@@ -62,7 +67,7 @@ returns c =
     let s = c .before .before .before .before .before .before .before .before .before .before in
     let a = s .args in
     refused-by-tests (input-of s) (a .config .«top_k») (a .rows .now) (a .exponents .now) (a .final-state .now) _ (c .refused .result) (c .refused .ensures)
-    (sym (ap reported (c .before .before .e .given .1)) ∙ (c .before .before .before .before .validate .ensures ∙ tests-are (input-of s) (a .config .«top_k») (a .rows .now) (a .exponents .now) (a .final-state .now)))
+    (sym (ap reported (c .before .before .e .given .1)) ∙ c .before .before .before .before .validate .ensures)
 
 enum-told : tie.Need-enum-told
 enum-told c = search needs
@@ -113,7 +118,9 @@ returns-2 c =
     let b = r .before .before .before .before .before .before .before in
     let i = input-of (s (tested b)) in
     let a = s (tested b) .args in
-    run-by-tests i (a .config .«top_k») (a .rows .now) (a .exponents .now) (a .final-state .now) _ _ (copied b _) (passed (tested b) ∙ tests-are i (a .config .«top_k») (a .rows .now) (a .exponents .now) (a .final-state .now)) (r .run .ensures)
+    run-by-tests i (a .config .«top_k») (a .rows .now) (a .exponents .now) (a .final-state .now) _ (passed (tested b))
+    (r .run .ensures
+    ∙ ap (λ (y : List Float). outputs (i .windows) (a .rows .now) (a .exponents .now) (a .final-state .now) (run-past none (problem (input (a .system) (a .matrix .now) (a .time) y (a .config))) (a .config .«top_k»))) (copied b _))
 
 pub estimate-spectrum-at-spec : {M : Type 1} → statement M
 estimate-spectrum-at-spec =

@@ -3,8 +3,8 @@ ghost use mathlib.Core.Path.{_≡_};
 ghost use Prim.Native.Nat.{_≤_};
 ghost use Rattle.error.specs.Refusal.{reported};
 ghost use Rattle.error.specs.Tests.{first-failing};
+ghost use Rattle.benettin.specs.Run as Run;
 ghost use Rattle.benettin.specs.Estimate as Estimate;
-ghost use Rattle.benettin.specs.RunTests as Tests;
 use crate::BenettinConfig;
 use error::LyapunovError;
 use error::Outcome;
@@ -54,7 +54,7 @@ fn validate_outputs(
     last: usize,
 ) -> Outcome
     requires { ⌜ (d ≤ 16) × (windows ≤ Estimate.limit) ⌝ }
-    ensures { λ r. ⌜ reported r ≡ first-failing (Tests.output-tests k d windows rows exponents last) ⌝ }
+    ensures { λ r. ⌜ reported r ≡ first-failing (Run.output-tests k d windows (Run.lengths rows exponents last)) ⌝ }
 {
     if d < k {
         return Outcome::Refused(LyapunovError::InvalidExponentCount);
@@ -83,7 +83,7 @@ pub fn validate(
     exponents: usize,
     last: usize,
 ) -> Outcome
-    ensures { λ r. ⌜ reported r ≡ first-failing (Tests.run-tests (Estimate.input system (now (matrix .entry)) time (now (state .entry)) config) (config .«top_k») rows exponents last) ⌝ }
+    ensures { λ r. ⌜ reported r ≡ first-failing (Run.run-tests (Estimate.problem (Estimate.input system (now (matrix .entry)) time (now (state .entry)) config)) (config .«top_k») (Run.lengths rows exponents last)) ⌝ }
 {
     let k = config.top_k;
     let windows = config.windows;
@@ -99,5 +99,6 @@ pub fn validate(
     if let Outcome::Refused(e) = validate_start(system, matrix, time, state) {
         return Outcome::Refused(e);
     }
-    validate_outputs(k, state.len(), windows, rows, exponents, last)
+    let d = system::dimension(system);
+    validate_outputs(k, d, windows, rows, exponents, last)
 }

@@ -1,4 +1,4 @@
--- `benettin::tests::validate_start` meets its contract. `past-n`: the tests up to n are passed, so that those behind them decide.
+-- `benettin::validation::validate_start` meets its contract. `past-n`: the tests up to n are passed, so that those behind them decide.
 use borrow.Author.Needs.{needs}
 use borrow.Author.Tests.{le-leb, lt-leb}
 use Prim.Native.Nat.{ℕ}
@@ -9,8 +9,8 @@ use Rattle.error.specs.Tests.{first-failing}
 use Rattle.error.specs.declared.Refusal.{Refusal}
 use Rattle.error.proofs.Tests.{skip, stop, positive-passes, zero-fails}
 use Rattle.benettin.specs.Estimate.{start-tests}
-use Rattle.benettin.proofs.tests.validate_start.Statement.{statement}
-use Rattle.benettin.proofs.tests.validate_start.Tie as tie
+use Rattle.benettin.proofs.validation.validate_start.Statement.{statement}
+use Rattle.benettin.proofs.validation.validate_start.Tie as tie
 
 abbrev from : ℕ → tie.Start → Option Refusal
 from n c = first-failing (drop n (start-tests (c .args .system) (c .args .matrix .now) (c .args .time) (c .args .state .now)))

@@ -1,4 +1,4 @@
--- `benettin::tests::validate_outputs` meets its contract. `past-n`: the first n tests are passed, so that those behind them decide.
+-- `benettin::validation::validate_outputs` meets its contract. `past-n`: the first n tests are passed, so that those behind them decide.
 use borrow.Author.Needs.{needs}
 use borrow.Author.Tests.{le-leb, lt-leb}
 use Prim.Native.Nat.{ℕ}
@@ -9,13 +9,13 @@ use lib.ListN.{drop}
 use Rattle.error.specs.Tests.{first-failing}
 use Rattle.error.specs.declared.Refusal.{Refusal}
 use Rattle.error.proofs.Tests.{skip, stop, none-left}
-use Rattle.benettin.specs.RunTests.{output-tests}
+use Rattle.benettin.specs.Run.{output-tests, lengths}
 use Rattle.benettin.proofs.RunTests.{rows-fit}
-use Rattle.benettin.proofs.tests.validate_outputs.Statement.{statement}
-use Rattle.benettin.proofs.tests.validate_outputs.Tie as tie
+use Rattle.benettin.proofs.validation.validate_outputs.Statement.{statement}
+use Rattle.benettin.proofs.validation.validate_outputs.Tie as tie
 
 abbrev from : ℕ → tie.Start → Option Refusal
-from n c = first-failing (drop n (output-tests (c .args .k) (c .args .d) (c .args .windows) (c .args .rows) (c .args .exponents) (c .args .last)))
+from n c = first-failing (drop n (output-tests (c .args .k) (c .args .d) (c .args .windows) (lengths (c .args .rows) (c .args .exponents) (c .args .last))))
 
 past-1 : (c : tie.Else1) {r : Option Refusal} → r ≡ from 1 (c .before) → r ≡ from 0 (c .before)
 past-1 c = skip _ _ (le-leb _ _ (c .if1 .left))

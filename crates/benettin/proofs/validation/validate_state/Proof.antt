@@ -1,10 +1,10 @@
--- `benettin::tests::validate_state` meets its contract.
+-- `benettin::validation::validate_state` meets its contract.
 use borrow.Author.Needs.{needs}
 use borrow.Author.Tests.{eq-eqb, ne-eqb}
 use Rattle.error.proofs.Tests.{skip, stop, none-left}
 use Rattle.benettin.proofs.RunTests.{stop-at, skip-nowhere}
-use Rattle.benettin.proofs.tests.validate_state.Statement.{statement}
-use Rattle.benettin.proofs.tests.validate_state.Tie as tie
+use Rattle.benettin.proofs.validation.validate_state.Statement.{statement}
+use Rattle.benettin.proofs.validation.validate_state.Tie as tie
 
 first-not-finite-requires : tie.Need-first-not-finite-requires
 first-not-finite-requires c κs = search needs

@@ -1,0 +1,207 @@
+-- How many of everything a run under way has: K directions, sums and faint counts, d entries of state, and a row of K locals and K runnings for each finished window.
+use Prim.Native.Nat.{ℕ, zero, suc, _+_, _≤_}
+use native.Mathlib.Omega.{arith}
+use mathlib.Core.Path.{_≡_, refl, sym, ap, _∙_}
+use mathlib.Core.Bool.{Bool, true, false, cond}
+use mathlib.Core.List.{List, [], _∷_, _++_, map}
+use mathlib.Core.Option.{Option, none, some, Option·map}
+use lib.ListN.{length, length-map, length-replicate}
+use lib.Ieee.{Float}
+use lib.Ieee.Scale.{finite}
+use Rattle.floats.specs.Arithmetic.{_⊕_, _⊘_, zero⁺}
+use Rattle.floats.specs.Finite.{first-not-finite}
+use Rattle.floats.specs.Vector.{concat}
+use Rattle.rk4.specs.Stepper.{zip}
+use Rattle.gram_schmidt.specs.Orthonormalise.{Lengths, Basis, collapsed, orthogonalise, with-direction, orthonormalise}
+use Rattle.benettin.specs.Run.{Dynamics, Problem, RunState, Status, ok, refused, refused-at, _then_, tested, stepped, step, steps, unless-collapsed, reorthonormalise, faint-or-not, count-faint, window}
+use Rattle.benettin.specs.Run.{warm-up, Course, accumulate, row, with-row, measured, check-duration, warmed-up, measured-from, course, course-of, initial}
+use Rattle.benettin.specs.Refusals.{Wide}
+use Rattle.benettin.proofs.Prefix.{drawn-directions-length, orthonormalise-whole}
+
+-- K directions, sums and faint counts, d entries of state, and n measured windows finished
+pub record Has (d K n : ℕ) (c : RunState) : Type 0 where
+  pub finished : c .finished ≡ n
+  pub state : length (c .state) ≡ d
+  pub directions : length (c .directions) ≡ K
+  pub sums : length (c .sums) ≡ K
+  pub faint : length (c .faint) ≡ K
+
+-- the same, with K logarithms and K squared lengths
+pub record HasLogs (d K n : ℕ) (c : RunState) : Type 0 where
+  pub has : Has d K n c
+  pub logs : length (c .logs) ≡ K
+  pub reports : length (c .reports) ≡ K
+
+-- what holds of a run under way, or n windows are finished where it is refused
+abbrev pub Holds : (RunState → Type 0) → ℕ → Status → Type 0
+Holds R n (ok c) = R c
+Holds R n (refused r) = r .finished ≡ n
+
+then-holds : (Q R : RunState → Type 0) (n : ℕ) (x : Status) (f : RunState → Status) → Holds Q n x → ((c : RunState) → Q c → Holds R n (f c)) → Holds R n (x then f)
+unfolding _then_
+then-holds Q R n (ok c) f q h = h c q
+then-holds Q R n (refused r) f q h = q
+
+tested-holds : (R : RunState → Type 0) (p q : Option ℕ) (b : Bool) (n : ℕ) (c e : RunState) → c .finished ≡ n → R e → Holds R n (tested p q b c e)
+unfolding tested
+tested-holds R (some i) q b n c e f h = f
+tested-holds R none (some i) b n c e f h = f
+tested-holds R none none false n c e f h = f
+tested-holds R none none true n c e f h = h
+
+-- ---- as many logarithms and squared lengths as directions, unless one collapsed
+
+abbrev Logged : ℕ → Basis → Type 0
+Logged n b = b .collapse ≡ none → (length (b .logs) ≡ n) × (length (b .reports) ≡ n)
+
+map-none : (o : Option ℕ) → Option·map suc o ≡ none → o ≡ none
+map-none none e = refl
+map-none (some i) e = let z : _≡_ {A = ℕ} 0 1 = cc in absurd (omega arith)
+
+with-direction-logged : (n : ℕ) (t : Bool) (w : List Float) (ws : List (List Float)) (u : List Float) (l q : Float) (r : Basis) → Logged n r → Logged (suc n) (with-direction t w ws u l q r)
+unfolding with-direction
+with-direction-logged n true w ws u l q r h e = let z : _≡_ {A = ℕ} 0 1 = cc in absurd (omega arith)
+with-direction-logged n false w ws u l q r h e = let g = h (map-none (r .collapse) e) in (ap suc (g .0), ap suc (g .1))
+
+orthonormalise-logged : (R : Lengths) (finished vs : List (List Float)) → Logged (length vs) (orthonormalise R finished vs)
+unfolding orthonormalise
+orthonormalise-logged R finished [] e = (refl, refl)
+orthonormalise-logged R finished (v ∷ vs) e =
+    let w = orthogonalise (R .start) finished (orthogonalise (R .start) finished v) in
+    let u = map (λ x. x ⊘ R .norm w) w in
+    with-direction-logged (length vs) (collapsed (R .norm w)) w vs u (R .log (R .norm w)) (R .report w) (orthonormalise R (finished ++ (u ∷ [])) vs)
+    (orthonormalise-logged R (finished ++ (u ∷ [])) vs) e
+
+zip-many {a b c} : {A : Type a} {B : Type b} {C : Type c} (f : A → B → C) (xs : List A) (ys : List B) → length xs ≡ length ys → length (zip f xs ys) ≡ length xs
+unfolding zip
+zip-many f [] ys e = refl
+zip-many f (x ∷ xs) [] e = sym e
+zip-many f (x ∷ xs) (y ∷ ys) e = ap suc (zip-many f xs ys (omega arith))
+
+-- ---- a window
+
+-- a step keeps the number of entries of the state
+abbrev pub KeepsState : Dynamics → Type 0
+KeepsState M = (n : ℕ) (x : List Float) → length (M .advance n x .0) ≡ length x
+
+module _ (M : Dynamics) (keeps : KeepsState M) (d K n : ℕ) where
+  step-has : (c : RunState) → Has d K n c → Holds (Has d K n) n (step M c)
+  unfolding step
+  step-has c h =
+      let a = M .advance (c .steps) (c .state) in
+      let vs = map (a .1) (c .directions) in
+      let t = c .time ⊕ M .step-size in
+      tested-holds (Has d K n) (first-not-finite (a .0)) (first-not-finite (concat vs)) (finite t) n c (stepped c (a .0) vs t) (h .finished)
+      (record { finished = h .finished; state = keeps (c .steps) (c .state) ∙ h .state; directions = length-map (c .directions) (a .1) ∙ h .directions; sums = h .sums; faint = h .faint })
+
+  steps-has : (s : ℕ) (c : RunState) → Has d K n c → Holds (Has d K n) n (steps M s c)
+  unfolding steps
+  steps-has zero c h = h
+  steps-has (suc s) c h = then-holds (Has d K n) (Has d K n) n (step M c) (steps M s) (step-has c h) (steps-has s)
+
+  basis-holds : (o : Option ℕ) (c : RunState) (b : Basis) → b .collapse ≡ o → Has d K n c → length (b .directions) ≡ K → Logged K b → Holds (HasLogs d K n) n (unless-collapsed o c b)
+  unfolding unless-collapsed
+  basis-holds (some i) c b e h v l = h .finished
+  basis-holds none c b e h v l =
+      record { has = record { finished = h .finished; state = h .state; directions = v; sums = h .sums; faint = h .faint }; logs = l e .0; reports = l e .1 }
+
+  basis-has : (c : RunState) → Has d K n c → Holds (HasLogs d K n) n (reorthonormalise M c)
+  unfolding reorthonormalise
+  basis-has c h =
+      let b = orthonormalise (M .lengths) [] (c .directions) in
+      basis-holds (b .collapse) c b refl h (orthonormalise-whole (M .lengths) [] (c .directions) .0 ∙ h .directions)
+      (λ e. let g = orthonormalise-logged (M .lengths) [] (c .directions) e in (g .0 ∙ h .directions, g .1 ∙ h .directions))
+
+  faint-has : (c : RunState) → HasLogs d K n c → HasLogs d K n (count-faint M c)
+  unfolding count-faint
+  faint-has c h =
+      let f = zip-many (faint-or-not (M .lengths)) (c .faint) (c .reports) (h .has .faint ∙ sym (h .reports)) ∙ h .has .faint in
+      record { has = record { finished = h .has .finished; state = h .has .state; directions = h .has .directions; sums = h .has .sums; faint = f }; logs = h .logs; reports = h .reports }
+
+  window-has : (s : ℕ) (c : RunState) → Has d K n c → Holds (HasLogs d K n) n (window M s c)
+  unfolding window
+  window-has s c h =
+      then-holds (HasLogs d K n) (HasLogs d K n) n (steps M s c then reorthonormalise M) (λ e. ok (count-faint M e))
+      (then-holds (Has d K n) (HasLogs d K n) n (steps M s c) (reorthonormalise M) (steps-has s c h) basis-has) faint-has
+
+  warm-up-has : (s w : ℕ) (c : RunState) → Has d K n c → Holds (Has d K n) n (warm-up M s w c)
+  unfolding warm-up
+  warm-up-has s zero c h = h
+  warm-up-has s (suc w) c h = then-holds (HasLogs d K n) (Has d K n) n (window M s c) (warm-up M s w) (window-has s c h) (λ e g. warm-up-has s w e (g .has))
+
+  duration-has : (c : RunState) → Has d K n c → Holds (Has d K n) n (check-duration M c)
+  unfolding check-duration
+  duration-has c h = go (finite (M .duration))
+    where
+      go : (b : Bool) → Holds (Has d K n) n (cond b (ok c) (refused (refused-at 15 0 c)))
+      go true = h
+      go false = h .finished
+
+  warmed-up-has : (s w : ℕ) (c : RunState) → Has d K n c → Holds (Has d K n) n (warmed-up M s w c)
+  unfolding warmed-up
+  warmed-up-has s w c h =
+      then-holds (Has d K n) (Has d K n) n (reorthonormalise M c then check-duration M) (warm-up M s w)
+      (then-holds (HasLogs d K n) (Has d K n) n (reorthonormalise M c) (check-duration M) (basis-has c h) (λ e g. duration-has e (g .has))) (warm-up-has s w)
+
+-- ---- each finished window has its row
+
+-- of a course over w windows, when n are finished before it
+pub record Rows (d K n w : ℕ) (t : Course) : Type 0 where
+  pub wide : Wide K (t .rows)
+  pub few : length (t .rows) ≤ w
+  pub end : Holds (λ c. Has d K (n + length (t .rows)) c × (length (t .rows) ≡ w)) (n + length (t .rows)) (t .end)
+
+accumulate-has : (d K n : ℕ) (c : RunState) → HasLogs d K n c → HasLogs d K (suc n) (accumulate c)
+unfolding accumulate
+accumulate-has d K n c h =
+    let s = zip-many (_⊕_) (c .sums) (c .logs) (h .has .sums ∙ sym (h .logs)) ∙ h .has .sums in
+    record { has = record { finished = ap suc (h .has .finished); state = h .has .state; directions = h .has .directions; sums = s; faint = h .has .faint }; logs = h .logs; reports = h .reports }
+
+module _ (M : Dynamics) (keeps : KeepsState M) (d K s : ℕ) where
+  with-row-rows : (n w : ℕ) (x : Status) (f : RunState → Course) → Holds (HasLogs d K n) n x → ((c : RunState) → Has d K (suc n) c → Rows d K (suc n) w (f c)) → Rows d K n (suc w) (with-row M x f)
+  unfolding with-row row
+  with-row-rows n w (refused r) f e h = record { wide = tt; few = omega arith; end = e ∙ omega arith }
+  with-row-rows n w (ok c) f e h = record { wide = (length-map (accumulate c .logs) _ ∙ g .logs, length-map (accumulate c .sums) _ ∙ g .has .sums, t .wide); few = omega (arith, t .few); end = go (f (accumulate c) .end) (t .end) }
+    where
+      g : HasLogs d K (suc n) (accumulate c)
+      g = accumulate-has d K n c e
+
+      t : Rows d K (suc n) w (f (accumulate c))
+      t = h (accumulate c) (g .has)
+
+      m : ℕ
+      m = length (f (accumulate c) .rows)
+
+      go : (x : Status) → Holds (λ c. Has d K (suc n + m) c × (m ≡ w)) (suc n + m) x → Holds (λ c. Has d K (n + suc m) c × (suc m ≡ suc w)) (n + suc m) x
+      go (ok b) p =
+          let z : suc n + m ≡ n + suc m = omega arith in
+          (record { finished = p .0 .finished ∙ z; state = p .0 .state; directions = p .0 .directions; sums = p .0 .sums; faint = p .0 .faint }, ap suc (p .1))
+      go (refused r) p = p ∙ omega arith
+
+  measured-rows : (w n : ℕ) (c : RunState) → Has d K n c → Rows d K n w (measured M s w c)
+  unfolding measured
+  measured-rows zero n c h =
+      let z : n ≡ n + 0 = omega arith in
+      record { wide = tt; few = omega arith; end = (record { finished = h .finished ∙ z; state = h .state; directions = h .directions; sums = h .sums; faint = h .faint }, refl) }
+  measured-rows (suc w) n c h = with-row-rows n w (window M s c) (measured M s w) (window-has M keeps d K n s c h) (measured-rows w (suc n))
+
+  from-rows : (w : ℕ) (x : Status) → Holds (Has d K 0) 0 x → Rows d K 0 w (measured-from M s w x)
+  unfolding measured-from
+  from-rows w (ok c) h = measured-rows w 0 c h
+  from-rows w (refused r) h = record { wide = tt; few = omega arith; end = h ∙ omega arith }
+
+-- the whole run
+pub course-rows : (P : Problem) (K : ℕ) → KeepsState (P .dynamics) → Rows (length (P .start)) K 0 (P .windows) (course-of P K)
+unfolding course initial
+course-rows P K keeps =
+    let d = length (P .start) in
+    let c = initial (P .generator) (P .dynamics .dim) (P .start) (P .time) (P .seed) K in
+    from-rows (P .dynamics) keeps d K (P .steps) (P .windows) (warmed-up (P .dynamics) (P .warm-up-steps) (P .warm-up-windows) c)
+    (warmed-up-has (P .dynamics) keeps d K 0 (P .warm-up-steps) (P .warm-up-windows) c
+    (record {
+      finished = refl;
+      state = refl;
+      directions = drawn-directions-length (P .generator) (P .dynamics .dim) K (P .seed);
+      sums = length-replicate K zero⁺;
+      faint = length-replicate K 0;
+    }))
