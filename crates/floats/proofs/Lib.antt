@@ -3,6 +3,7 @@ pub mod Zero
 pub mod Finite
 pub mod Magnitude
 pub mod Units
+pub mod Rounding
 pub mod Pattern
 pub mod OneForm
 pub mod Ordinary

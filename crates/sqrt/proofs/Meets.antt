@@ -1,15 +1,15 @@
 -- `root` is what the standard asks: `root x` meets `IsRoot x`, for every x of the format.
 use mathlib.Core.Path.{_≡_, refl, sym, ap, _∙_, subst}
-use mathlib.Core.Bool.{true, false, not}
-use Prim.Native.Nat.{ℕ, zero, suc, _+_, _-_, _*_, _/_, _%_, _^_, _≤_, _<_, compare, Ordering, Ordering·lt, Ordering·eq, Ordering·gt}
-use native.Mathlib.Nat.{le-trans, le-of-eq, lt-of-lt-of-le, lt-of-le-of-lt, add-mul, mul-add, mul-assoc, mul-comm, mul-left-comm, mul-right-comm, one-mul, suc-mul, mul-pos, mul-le-mul, mul-le-mul-right, mul-lt-mul-of-pos-right, lt-of-mul-lt-mul-right, le-of-mul-le-mul-right, lt-of-not-le, not-le-of-lt, zero-lt-suc, pow-suc, mul-div-cancel, div-add-mod', mod-lt}
+use mathlib.Core.Bool.{true, false}
+use Prim.Native.Nat.{ℕ, zero, suc, _+_, _-_, _*_, _/_, _^_, _≤_, _<_}
+use native.Mathlib.Nat.{le-trans, le-of-eq, lt-of-lt-of-le, lt-of-le-of-lt, add-mul, mul-add, mul-assoc, mul-comm, mul-left-comm, mul-right-comm, one-mul, suc-mul, mul-pos, mul-le-mul, mul-le-mul-right, mul-lt-mul-of-pos-right, lt-of-mul-lt-mul-right, le-of-mul-le-mul-right, lt-of-not-le, not-le-of-lt, pow-suc, mul-div-cancel}
 use native.Mathlib.Omega.{arith}
 use native.Mathlib.Decide.{decLe}
 use lib.IntN.{ℤ}
-use lib.Dec.{T, isLe, isEq, eqb, leb→le, nleb→lt, eqb→eq, eqb-refl, lit<, lit≤}
+use lib.Dec.{T, lit<, lit≤}
 use lib.Arith.{digits-div, lt-of-le-ne}
 use lib.Pow.{pow-pos, pow-add, pow-mono}
-use lib.Ieee.{Float, nan, inf, fin, binary64, up, down, size, nearest, round, fits, lt}
+use lib.Ieee.{Float, nan, inf, fin, binary64, up, down, size, round, fits}
 use lib.Ieee.Fits.{down-pos, round-fits}
 use lib.Ieee.Digits.{size-lt, size-reaches}
 use lib.Ieee.Exact.{HasValue}
@@ -20,6 +20,7 @@ use Rattle.sqrt.specs.SquareRoot.{root, whole-root, Closest, IsRoot}
 use Rattle.sqrt.proofs.Whole.{RootOf, whole-root-is}
 use Rattle.sqrt.proofs.Closest.{closest-of}
 use Rattle.floats.proofs.Units.{U, few-digits, under-end-of, some-of}
+use Rattle.floats.proofs.Rounding.{half-away}
 use Rattle.sqrt.proofs.NoTie.{no-tie}
 
 -- ---- from bounds on the root to `Closest`: the root lies from `lo` up to below `hi`, and these lie between the two middles
@@ -58,43 +59,6 @@ closest-at x r X P i a v lo hi vx form few vr f big l h ll hh edge =
 -- ---- squares
 pub square-cancel : (a b : ℕ) → a * a < b * b → a < b
 square-cancel a b h = elim (decLe b a) [ yes g ↦ absurd (not-le-of-lt h (mul-le-mul g g)) | no g ↦ lt-of-not-le g ]
-
--- ---- the nearest whole number is at most a half away
-abbrev Cmp : Ordering → ℕ → ℕ → Type 0
-Cmp Ordering·lt a b = a < b
-Cmp Ordering·eq a b = a ≡ b
-Cmp Ordering·gt a b = b < a
-
-cmp : (a b : ℕ) → Cmp (compare a b) a b
-cmp a b = go (compare a b) (leb→le a b) (nleb→lt a b) (eqb→eq a b) (λ (e : a ≡ b). subst (λ (x : ℕ). T (eqb a x)) e (eqb-refl a))
-  where
-    go : (o : Ordering) → (T (isLe o) → a ≤ b) → (T (not (isLe o)) → b < a) → (T (isEq o) → a ≡ b) → (a ≡ b → T (isEq o)) → Cmp o a b
-    go Ordering·lt h k e n = lt-of-le-ne (h tt) n
-    go Ordering·eq h k e n = e tt
-    go Ordering·gt h k e n = k tt
-
-half-away : (a b : ℕ) → 0 < b → (2 * a ≤ 2 * (closest a b * b) + b) × (2 * (closest a b * b) ≤ 2 * a + b)
-half-away a b B = go (compare (a % b * 2) b) (cmp (a % b * 2) b)
-  where
-    e : a / b * b + a % b ≡ a
-    e = div-add-mod' a b
-
-    l : a % b < b
-    l = mod-lt a B
-
-    up-one : suc (a / b) * b ≡ a / b * b + b
-    up-one = suc-mul (a / b) b
-
-    two-ways : (q : ℕ) → q < 2 → (2 * a ≤ 2 * (a / b * b) + b) → a % b * 2 ≡ b → (2 * a ≤ 2 * ((a / b + q) * b) + b) × (2 * ((a / b + q) * b) ≤ 2 * a + b)
-    two-ways q h k m = let t : (a / b + q) * b ≡ a / b * b + q * b = add-mul (a / b) q b in let u : q * b ≤ b = le-trans (mul-le-mul-right b (lower q h)) (le-of-eq (one-mul b)) in (omega (arith, e), omega (arith, e))
-      where
-        lower : (q : ℕ) → q < 2 → q ≤ 1
-        lower q h = omega arith
-
-    go : (o : Ordering) → Cmp o (a % b * 2) b → (2 * a ≤ 2 * (nearest (a / b) o * b) + b) × (2 * (nearest (a / b) o * b) ≤ 2 * a + b)
-    go Ordering·lt h = (omega (arith, e, l, up-one), omega (arith, e, l, up-one))
-    go Ordering·eq h = two-ways (a / b % 2) (mod-lt (a / b) (zero-lt-suc 1)) (omega (arith, e)) h
-    go Ordering·gt h = (omega (arith, e, l, up-one), omega (arith, e, l, up-one))
 
 -- ---- the definition's own numbers
 module _ (S : ℕ) where
