@@ -4,3 +4,4 @@ pub mod Directions
 pub mod Finished
 pub mod Collapse
 pub mod Degenerate
+pub mod Underflow
