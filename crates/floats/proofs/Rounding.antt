@@ -53,6 +53,9 @@ half-away a b B = go (compare (a % b * 2) b) (cmp (a % b * 2) b)
     go Ordering·eq h = two-ways (a / b % 2) (mod-lt (a / b) (zero-lt-suc 1)) (omega (arith, e)) h
     go Ordering·gt h = (omega (arith, e, l, up-one), omega (arith, e, l, up-one))
 
+regroup : (q c t : ℕ) → q * (c * t) ≡ q * t * c
+regroup q c t = ap (λ (z : ℕ). q * z) (mul-comm c t) ∙ sym (mul-assoc q t c)
+
 -- ---- a / c, which is n / c units, and the rounded value, which is g / c units
 module _ (a c : ℕ) (some : 0 < c) where
   abbrev n : ℕ
@@ -66,24 +69,21 @@ module _ (a c : ℕ) (some : 0 < c) where
 
   away : (2 * n ≤ 2 * g + c * 2 ^ k) × (2 * g ≤ 2 * n + c * 2 ^ k)
   away =
-      subst (λ (z : ℕ). (2 * n ≤ 2 * z + c * 2 ^ k) × (2 * z ≤ 2 * n + c * 2 ^ k)) (regroup (kept 53 n c) (2 ^ k)) (half-away n (c * 2 ^ k) (mul-pos some (pow-pos k)))
-    where
-      regroup : (q t : ℕ) → q * (c * t) ≡ q * t * c
-      regroup q t = ap (λ (z : ℕ). q * z) (mul-comm c t) ∙ sym (mul-assoc q t c)
+      subst (λ (z : ℕ). (2 * n ≤ 2 * z + c * 2 ^ k) × (2 * z ≤ 2 * n + c * 2 ^ k)) (regroup (kept 53 n c) c (2 ^ k)) (half-away n (c * 2 ^ k) (mul-pos some (pow-pos k)))
 
-  -- below 2 ^ 52 units no digit is dropped
+  -- below 2 ^ -1022, which is 2 ^ 52 units, no digit is dropped
   module _ (low : n < 2 ^ 52 * c) where
     few : size (n / c) ≤ 52
     few = size-le (n / c) 52 (div-lt-iff-lt-mul some .1 low)
 
-    pub subnormal-away : (2 * n ≤ 2 * g + c) × (2 * g ≤ 2 * n + c)
-    subnormal-away = subst (λ (z : ℕ). (2 * n ≤ 2 * g + z) × (2 * g ≤ 2 * n + z)) (ap (λ (z : ℕ). c * 2 ^ z) (none (size (n / c)) few) ∙ mul-one c) away
+    pub rounded-subnormal : (2 * n ≤ 2 * g + c) × (2 * g ≤ 2 * n + c)
+    rounded-subnormal = subst (λ (z : ℕ). (2 * n ≤ 2 * g + z) × (2 * g ≤ 2 * n + z)) (ap (λ (z : ℕ). c * 2 ^ z) (none (size (n / c)) few) ∙ mul-one c) away
       where
         none : (z : ℕ) → z ≤ 52 → z - 53 ≡ 0
         none z h = omega arith
 
-    pub subnormal-value : HasValue (round binary64 false a c) false (grid binary64 a c) U
-    subnormal-value = round-val binary64 a c (lt-of-le-of-lt small (lit< tt))
+    pub round-value-subnormal : HasValue (round binary64 false a c) false (grid binary64 a c) U
+    round-value-subnormal = round-val binary64 a c (lt-of-le-of-lt small (lit< tt))
       where
         over : (z : ℕ) → z ≤ 52 → 53 ≤ z → ⊥
         over z h l = omega arith

@@ -2,7 +2,7 @@
 use mathlib.Core.Path.{_≡_, refl, sym, ap, _∙_, subst}
 use mathlib.Core.Bool.{Bool, true, false, cond, false≢true}
 use mathlib.Core.List.{List, [], _∷_}
-use Prim.Native.Nat.{ℕ, _+_, _-_, _*_, _/_, _^_, _≤_, _<_}
+use Prim.Native.Nat.{ℕ, zero, suc, _+_, _-_, _*_, _/_, _^_, _≤_, _<_}
 use native.Mathlib.Nat.{lt-of-lt-of-le, mul-pos, mul-le-mul, mul-le-mul-left, mul-le-mul-right, le-of-mul-le-mul-right, lt-of-mul-lt-mul-right, mul-div-cancel, div-mul-le-self, le-div-iff-mul-le, div-lt-iff-lt-mul}
 use native.Mathlib.Omega.{arith}
 use borrow.Author.Tests.{ltb-false}
@@ -10,25 +10,36 @@ use lib.Dec.{T, ltb, ltb→lt, lit≤}
 use lib.IntN.{ℤ}
 use lib.ListN.{length}
 use lib.Pow.{pow-pos}
-use lib.Ieee.{Float, nan, inf, fin, binary64, up, down, unlike, lt, mul, round}
+use lib.Ieee.{Float, nan, inf, fin, binary64, up, down, unlike, fits, lt, mul, round}
 use lib.Ieee.Fits.{down-pos}
 use lib.Ieee.Exact.{HasValue}
 use lib.Ieee.Scale.{finite, grid}
 use Rattle.floats.specs.Arithmetic.{_⊗_, faint-limit}
-use Rattle.floats.proofs.Units.{U}
-use Rattle.floats.proofs.Rounding.{subnormal-away, subnormal-value}
+use Rattle.floats.proofs.Units.{U, few-digits}
+use Rattle.floats.proofs.Rounding.{rounded-subnormal, round-value-subnormal}
 use Rattle.sqrt.proofs.Meets.{square-cancel}
 use Rattle.gram_schmidt.specs.GramSchmidt.{squared-length}
-use Rattle.gram_schmidt.specs.Underflow.{in-units, exact-square, rounded-square, distance, lost, lost-squares, UnderflowBound}
+use Rattle.gram_schmidt.specs.Underflow.{in-units, UnitsExact, exact-square, rounded-square, distance, lost, lost-squares, UnderflowBound}
 
+-- ---- a value in units
 units-are : (x : Float) (s : Bool) (X : ℕ) → HasValue x s X U → in-units x ≡ X
 units-are nan s X h = absurd h
 units-are (inf t) s X h = absurd h
 units-are (fin t m e) s X h = ap (λ (z : ℕ). z / down e) (h .1) ∙ mul-div-cancel X (down-pos e)
 
--- ---- the square of A / D, over numbers: X is the whole part of A / D in units of 1 / u
+no-sign : (s : Bool) (m : ℕ) (e : ℤ) → T (fits binary64 (fin s m e)) → T (fits binary64 (fin false m e))
+unfolding fits
+no-sign s zero e h = h
+no-sign s (suc m) e h = h
+
+pub units-exact : UnitsExact
+units-exact s m e h =
+    let d = few-digits (fin false m e) (no-sign s m e h) tt in
+    subst (λ (z : ℕ). m * up e * U ≡ z * down e) (sym (units-are (fin false m e) false (d .0 * 2 ^ d .1) (d .3))) (d .3 .1)
+
+-- ---- the square of A / D, where X is the whole part of A / D in units of 1 / u
 module _ (u A D X : ℕ) (d : 0 < D) (lo : X * D ≤ A * u) (hi : A * u < (X + 1) * D) where
-  -- below r units it has a square below L units, where these are r * r units of 1 / (u * u)
+  -- where A / D is below r units, its square is below L units
   small-square : (r L : ℕ) → r * r ≡ L * u → X < r → A * A * u < L * (D * D)
   small-square r L e h =
       let l : A * u < r * D = lt-of-lt-of-le hi (mul-le-mul-right D (next X r h)) in
@@ -37,7 +48,7 @@ module _ (u A D X : ℕ) (d : 0 < D) (lo : X * D ≤ A * u) (hi : A * u < (X + 1
       next : (X r : ℕ) → X < r → X + 1 ≤ r
       next X r h = omega arith
 
-  -- Q units, at most half a unit away from it, are less than a unit away from X * X
+  -- Q units that are at most half a unit away from it are less than a unit away from the square of X units
   near-square : (Q : ℕ) → 4 * X + 2 < u → (2 * (A * A * u) ≤ 2 * (Q * (D * D)) + D * D) × (2 * (Q * (D * D)) ≤ 2 * (A * A * u) + D * D) → distance (Q * u) (X * X) < u
   near-square Q s h =
       let under : 2 * (X * X) ≤ 2 * (Q * u) + u = le-of-mul-le-mul-right (omega (arith, mul-le-mul lo lo, mul-le-mul-right u (h .0))) (mul-pos d d) in
@@ -62,9 +73,9 @@ square-error s m e h =
     let low : A * A * U < 2 ^ 52 * (D * D) = small-square U A D X d lo hi (2 ^ 563) (2 ^ 52) refl few in
     let Q = grid binary64 (A * A) (D * D) in
     let q : in-units (fin s m e ⊗ fin s m e) ≡ Q =
-    ap (λ (t : Bool). in-units (round binary64 t (A * A) (D * D))) (like s) ∙ units-are (round binary64 false (A * A) (D * D)) false Q (subnormal-value (A * A) (D * D) (mul-pos d d) low) in
+    ap (λ (t : Bool). in-units (round binary64 t (A * A) (D * D))) (like s) ∙ units-are (round binary64 false (A * A) (D * D)) false Q (round-value-subnormal (A * A) (D * D) (mul-pos d d) low) in
     subst (λ (z : ℕ). distance (z * U) (X * X) < U) (sym q)
-    (near-square U A D X d lo hi Q (lt-of-lt-of-le (room X (2 ^ 563) few) (lit≤ tt)) (subnormal-away (A * A) (D * D) (mul-pos d d) low))
+    (near-square U A D X d lo hi Q (lt-of-lt-of-le (room X (2 ^ 563) few) (lit≤ tt)) (rounded-subnormal (A * A) (D * D) (mul-pos d d) low))
   where
     more : (X : ℕ) → X < X + 1
     more X = omega arith
@@ -102,8 +113,10 @@ not-faint (fin false m e) f h = le-div-iff-mul-le (down-pos e) .1 (times (m * up
     times : (n p t d : ℕ) → 1 * d ≤ n * p → t * d ≤ n * (p * t)
     times n p t d h = omega (arith, mul-le-mul-left t h)
 
+-- the sum l of n numbers below u, of which there are b at most
+below-part : (c b n l u G : ℕ) → c * b ≤ 2 ^ 114 → 2 ^ 114 ≤ G → 0 < u → n ≤ b → l ≤ n * (u - 1) → c * l < G * u
+below-part c b n l u G h g p few k =
+    omega (arith, mul-le-mul-left c k, mul-le-mul-left c (mul-le-mul-right (u - 1) few), mul-le-mul-right (u - 1) h, mul-le-mul-right u g)
+
 pub underflow-bound : UnderflowBound
-underflow-bound v few f h = total U (lost-squares v) (length v) (in-units (squared-length v)) (pow-pos 1074) (lost-squares-below U lost-below v) few (not-faint (squared-length v) f h)
-  where
-    total : (u l n G : ℕ) → 0 < u → l ≤ n * (u - 1) → n ≤ 16 → 2 ^ 114 ≤ G → 2 ^ 110 * l < G * u
-    total u l n G p h few g = omega (arith, mul-le-mul-right (u - 1) few, mul-le-mul-right u g)
+underflow-bound v few f h = below-part _ _ _ _ _ _ (lit≤ tt) (not-faint (squared-length v) f h) (pow-pos 1074) few (lost-squares-below U lost-below v)
