@@ -183,6 +183,32 @@ uint64_t lyapunov_estimate_spectrum_at(
     double *final_state, size_t final_state_len,
     uint64_t *counts, double *times);
 
+/* The same run from time 0. */
+uint64_t lyapunov_estimate_spectrum(
+    uint64_t kind, double p0, double p1, double p2,
+    size_t dimension, const double *matrix, size_t matrix_len,
+    const double *state, size_t state_len,
+    size_t top_k, double step_size, uint64_t steps_per_window, uint64_t windows,
+    uint64_t transient_windows, uint64_t seed,
+    double *rows, size_t rows_len,
+    double *exponents, size_t exponents_len,
+    double *final_state, size_t final_state_len,
+    uint64_t *counts, double *times);
+
+/*
+ * The same run from time 0 for the largest exponent: top_k is 1, there are no warm-up windows, and
+ * the seed is LYAPUNOV_DEFAULT_SEED.
+ */
+uint64_t lyapunov_estimate_largest(
+    uint64_t kind, double p0, double p1, double p2,
+    size_t dimension, const double *matrix, size_t matrix_len,
+    const double *state, size_t state_len,
+    double step_size, uint64_t steps_per_window, uint64_t windows,
+    double *rows, size_t rows_len,
+    double *exponents, size_t exponents_len,
+    double *final_state, size_t final_state_len,
+    uint64_t *counts, double *times);
+
 /*
  * Tests the settings of a run without running: 1 to 5, with no warm-up windows. A run tests them
  * again. Only *place is written.

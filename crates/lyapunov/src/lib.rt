@@ -4,19 +4,22 @@
 // none, as specs/Refusal.antt of crate error has it. specs/Interface.antt says what a system's number means, and what is
 // written through a pointer. specs/Marked.antt is document 01's table of marked examples.
 ghost use mathlib.Core.Path.{_≡_};
-ghost use mathlib.Core.List.{_∷_};
+ghost use mathlib.Core.List.{List, _∷_};
+ghost use lib.Ieee.{Float};
 ghost use Rattle.sqrt.specs.SquareRoot.{root};
 ghost use Rattle.ln.specs.Logarithm.{logarithm};
 ghost use Rattle.splitmix64.specs.Mix as Mix;
 ghost use Rattle.error.specs.Refusal.{number-of, place-of, reported, refusal-in};
 ghost use Rattle.gram_schmidt.specs.GramSchmidt.{orthonormalised};
 ghost use Rattle.rk4.specs.Step.{stepped};
-ghost use Rattle.benettin.specs.Estimate.{configured, input, settings};
-ghost use Rattle.benettin.specs.Outputs.{estimated};
+ghost use Rattle.floats.specs.Arithmetic.{zero⁺};
+ghost use Rattle.benettin.specs.Estimate.{configured, default-seed, input, settings};
+ghost use Rattle.benettin.specs.Outputs.{estimated, left};
 ghost use Rattle.diagnostics.specs.Rates as Rates;
 ghost use Rattle.lyapunov.specs.Interface as Interface;
 use benettin::BenettinConfig;
 use benettin::Configured;
+use benettin::SpectrumEstimate;
 use error::Outcome;
 use system::System;
 
@@ -77,6 +80,19 @@ fn counts_of(place: u64, windows: u64, steps: u64, faint: [u64; 16]) -> [u64; 19
         i += 1;
     }
     counts
+}
+
+// The answer of a run as C takes it, whatever its three slices hold.
+fn report_run(answer: SpectrumEstimate, counts: &mut [u64; 19], times: &mut [f64; 2]) -> u64
+    ensures { λ r. ⌜ ((rows exponents final : List Float) → Interface.Returns r (now (counts .exit)) (now (times .exit)) rows exponents final (left answer rows exponents final)) ⌝ }
+{
+    *times = [answer.final_time, answer.measured_time];
+    let mut place = 0;
+    let outcome = answer.outcome;
+    let number = report(outcome, &mut place);
+    let faint = answer.faint;
+    *counts = counts_of(place, answer.windows, answer.steps, faint);
+    number
 }
 
 // A rate goes to `out`, which a refusal leaves as it is.
@@ -246,13 +262,92 @@ pub extern "C" fn lyapunov_estimate_spectrum_at(
         exponents,
         final_state,
     );
-    *times = [answer.final_time, answer.measured_time];
-    let mut place = 0;
-    let outcome = answer.outcome;
-    let number = report(outcome, &mut place);
-    let faint = answer.faint;
-    *counts = counts_of(place, answer.windows, answer.steps, faint);
-    number
+    report_run(answer, counts, times)
+}
+
+// A run from time zero.
+#[no_mangle]
+pub extern "C" fn lyapunov_estimate_spectrum(
+    kind: u64,
+    p0: f64,
+    p1: f64,
+    p2: f64,
+    dimension: usize,
+    matrix: &[f64],
+    state: &[f64],
+    top_k: usize,
+    step_size: f64,
+    steps_per_window: u64,
+    windows: u64,
+    transient_windows: u64,
+    seed: u64,
+    rows: &mut [f64],
+    exponents: &mut [f64],
+    final_state: &mut [f64],
+    counts: &mut [u64; 19],
+    times: &mut [f64; 2],
+) -> u64
+    ensures { λ r. ⌜ Interface.Returns r (now (counts .exit)) (now (times .exit)) (now (rows .exit)) (now (exponents .exit)) (now («final_state» .exit))
+        (estimated (input (Interface.system kind p0 p1 p2 dimension) (now (matrix .entry)) zero⁺ (now (state .entry)) (settings «top_k» «step_size» «steps_per_window» windows «transient_windows» seed))
+        «top_k» (now (rows .entry)) (now (exponents .entry)) (now («final_state» .entry))) ⌝ }
+{
+    let system = system_of(kind, p0, p1, p2, dimension);
+    let config = BenettinConfig {
+        top_k,
+        step_size,
+        steps_per_window,
+        windows,
+        transient_windows,
+        seed,
+    };
+    let answer = estimator::estimate::estimate_spectrum(
+        system,
+        matrix,
+        state,
+        config,
+        rows,
+        exponents,
+        final_state,
+    );
+    report_run(answer, counts, times)
+}
+
+// A run for the largest exponent, from time zero, with no warm-up windows and the default seed.
+#[no_mangle]
+pub extern "C" fn lyapunov_estimate_largest(
+    kind: u64,
+    p0: f64,
+    p1: f64,
+    p2: f64,
+    dimension: usize,
+    matrix: &[f64],
+    state: &[f64],
+    step_size: f64,
+    steps_per_window: u64,
+    windows: u64,
+    rows: &mut [f64],
+    exponents: &mut [f64],
+    final_state: &mut [f64],
+    counts: &mut [u64; 19],
+    times: &mut [f64; 2],
+) -> u64
+    ensures { λ r. ⌜ Interface.Returns r (now (counts .exit)) (now (times .exit)) (now (rows .exit)) (now (exponents .exit)) (now («final_state» .exit))
+        (estimated (input (Interface.system kind p0 p1 p2 dimension) (now (matrix .entry)) zero⁺ (now (state .entry)) (settings 1 «step_size» «steps_per_window» windows 0 default-seed))
+        1 (now (rows .entry)) (now (exponents .entry)) (now («final_state» .entry))) ⌝ }
+{
+    let system = system_of(kind, p0, p1, p2, dimension);
+    let answer = estimator::estimate::estimate_largest(
+        system,
+        matrix,
+        state,
+        step_size,
+        steps_per_window,
+        windows,
+        rows,
+        exponents,
+        final_state,
+    );
+    report_run(answer, counts, times)
 }
 
 // The dimension goes to `out`, which a refusal leaves as it is.

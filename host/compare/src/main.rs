@@ -23,6 +23,7 @@ const USAGE: &str = "usage:
   compare orthonormalise --count N       the orthonormaliser on its own
   compare settings --count N             settings that are built
   compare runs --count N                 whole runs
+  compare from-zero --count N            runs by estimate_spectrum and estimate_largest
   compare pairs --count N                runs for k and for K exponents (demand 3)
   compare rates --count N                dimension and entropy
   compare write-list FILE                write the fixed list of answers
@@ -67,6 +68,7 @@ fn compare(name: &str, count: &str, seed: &str) -> Result<bool, String> {
         "orthonormalise" => commands::orthonormalise,
         "settings" => commands::settings,
         "runs" => commands::runs,
+        "from-zero" => commands::from_zero,
         "pairs" => commands::pairs,
         "rates" => commands::rates,
         _ => return Err(USAGE.to_string()),

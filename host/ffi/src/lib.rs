@@ -199,6 +199,81 @@ pub fn estimate_spectrum_at(
     }
 }
 
+/// A run from time 0.
+pub fn estimate_spectrum(
+    system: &System,
+    state: &[f64],
+    config: &Config,
+    outputs: &mut Outputs,
+) -> u64 {
+    let [p0, p1, p2] = system.parameters;
+    // SAFETY: as for `estimate_spectrum_at`.
+    unsafe {
+        raw::lyapunov_estimate_spectrum(
+            system.kind,
+            p0,
+            p1,
+            p2,
+            system.dimension,
+            system.matrix.as_ptr(),
+            system.matrix.len(),
+            state.as_ptr(),
+            state.len(),
+            config.top_k,
+            config.step_size,
+            config.steps_per_window,
+            config.windows,
+            config.transient_windows,
+            config.seed,
+            outputs.rows.as_mut_ptr(),
+            outputs.rows.len(),
+            outputs.exponents.as_mut_ptr(),
+            outputs.exponents.len(),
+            outputs.final_state.as_mut_ptr(),
+            outputs.final_state.len(),
+            outputs.counts.as_mut_ptr(),
+            outputs.times.as_mut_ptr(),
+        )
+    }
+}
+
+/// A run from time 0 for the largest exponent, with no warm-up windows and the default seed.
+pub fn estimate_largest(
+    system: &System,
+    state: &[f64],
+    step_size: f64,
+    steps_per_window: u64,
+    windows: u64,
+    outputs: &mut Outputs,
+) -> u64 {
+    let [p0, p1, p2] = system.parameters;
+    // SAFETY: as for `estimate_spectrum_at`.
+    unsafe {
+        raw::lyapunov_estimate_largest(
+            system.kind,
+            p0,
+            p1,
+            p2,
+            system.dimension,
+            system.matrix.as_ptr(),
+            system.matrix.len(),
+            state.as_ptr(),
+            state.len(),
+            step_size,
+            steps_per_window,
+            windows,
+            outputs.rows.as_mut_ptr(),
+            outputs.rows.len(),
+            outputs.exponents.as_mut_ptr(),
+            outputs.exponents.len(),
+            outputs.final_state.as_mut_ptr(),
+            outputs.final_state.len(),
+            outputs.counts.as_mut_ptr(),
+            outputs.times.as_mut_ptr(),
+        )
+    }
+}
+
 /// `out` is written where the refusal's number is 0.
 pub fn kaplan_yorke_dimension(exponents: &[f64], out: &mut f64) -> Refusal {
     let mut place = UNWRITTEN;

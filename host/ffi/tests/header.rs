@@ -79,6 +79,6 @@ fn of_header() -> BTreeMap<String, Signature> {
 #[test]
 fn the_header_declares_the_same_functions() {
     let (raw, header) = (of_raw(), of_header());
-    assert_eq!(raw.len(), 11);
+    assert_eq!(raw.len(), 13);
     assert_eq!(header, raw);
 }

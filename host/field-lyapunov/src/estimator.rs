@@ -293,7 +293,13 @@ pub fn estimate_spectrum(
     initial_state: &[f64],
     config: &BenettinConfig,
 ) -> core::result::Result<SpectrumEstimate, RefusedRun> {
-    estimate_spectrum_at(stepper, 0.0, initial_state, config)
+    let (system, lent) = (stepper.system().lent(), config.lent());
+    run(
+        config.top_k,
+        config.windows,
+        initial_state.len(),
+        |outputs| lyapunov_sys::estimate_spectrum(&system, initial_state, &lent, outputs),
+    )
 }
 
 /// A run for the largest exponent alone, from time 0, with no warm-up and the default seed.
@@ -313,8 +319,11 @@ pub fn estimate_largest(
     steps_per_window: usize,
     windows: usize,
 ) -> core::result::Result<SpectrumEstimate, RefusedRun> {
-    let config = BenettinConfig::new(1, step_size, steps_per_window, windows)?;
-    estimate_spectrum(stepper, initial_state, &config)
+    let system = stepper.system().lent();
+    let (steps, count) = (steps_per_window as u64, windows as u64);
+    run(1, windows, initial_state.len(), |outputs| {
+        lyapunov_sys::estimate_largest(&system, initial_state, step_size, steps, count, outputs)
+    })
 }
 
 /// A run from a start time.
@@ -340,19 +349,31 @@ pub fn estimate_spectrum_at(
     initial_state: &[f64],
     config: &BenettinConfig,
 ) -> core::result::Result<SpectrumEstimate, RefusedRun> {
-    let run = Run {
-        system: stepper.system().lent(),
-        time: initial_time,
-        state: initial_state,
-        config: config.lent(),
-    };
-    run.tests()?;
-    let Some((mut rows, windows)) = room(config.top_k, config.windows) else {
+    let (system, lent) = (stepper.system().lent(), config.lent());
+    run(
+        config.top_k,
+        config.windows,
+        initial_state.len(),
+        |outputs| {
+            lyapunov_sys::estimate_spectrum_at(&system, initial_time, initial_state, &lent, outputs)
+        },
+    )
+}
+
+/// The run that `call` makes, of so many exponents, windows and entries of the state.
+fn run(
+    top_k: usize,
+    windows: usize,
+    dimension: usize,
+    call: impl Fn(&mut lyapunov_sys::Outputs) -> u64,
+) -> core::result::Result<SpectrumEstimate, RefusedRun> {
+    tests(&call)?;
+    let Some((mut rows, windows)) = room(top_k, windows) else {
         return Err(LyapunovError::OutputTooShort(0).into());
     };
-    let mut exponents = vec![0.0; config.top_k];
-    let mut final_state = vec![0.0; initial_state.len()];
-    let report = run.write(&mut rows, &mut exponents, &mut final_state);
+    let mut exponents = vec![0.0; top_k];
+    let mut final_state = vec![0.0; dimension];
+    let report = Report::of(&call, &mut rows, &mut exponents, &mut final_state);
     let finite_time = filled(windows, &rows, report.finished());
     if let Err(error) = report.answer() {
         return Err(RefusedRun {
@@ -365,19 +386,19 @@ pub fn estimate_spectrum_at(
         exponents,
         finite_time,
         final_state,
-        faint_counts: report.faint_counts()[..config.top_k].to_vec(),
+        faint_counts: report.faint_counts()[..top_k].to_vec(),
         steps: report.steps(),
         final_time: report.times[0],
         measured_time: report.times[1],
     })
 }
 
-/// What is handed to a run.
-struct Run<'a> {
-    system: lyapunov_sys::System<'a>,
-    time: f64,
-    state: &'a [f64],
-    config: lyapunov_sys::Config,
+/// Tests 1 to 12. Without outputs a run is refused by 13, or by an earlier test.
+fn tests(call: impl Fn(&mut lyapunov_sys::Outputs) -> u64) -> Result<()> {
+    match Report::of(call, &mut [], &mut [], &mut []).answer() {
+        Err(LyapunovError::OutputTooShort(_)) => Ok(()),
+        answer => answer,
+    }
 }
 
 /// What a run answers beside its slices.
@@ -387,41 +408,29 @@ struct Report {
     times: [f64; 2],
 }
 
-impl Run<'_> {
-    /// Tests 1 to 12. Without outputs a run is refused by 13, or by an earlier test.
-    fn tests(&self) -> Result<()> {
-        match self.write(&mut [], &mut [], &mut []).answer() {
-            Err(LyapunovError::OutputTooShort(_)) => Ok(()),
-            answer => answer,
-        }
-    }
-
-    /// The run with these outputs.
-    fn write(&self, rows: &mut [f64], exponents: &mut [f64], final_state: &mut [f64]) -> Report {
+impl Report {
+    /// Of the call with these outputs.
+    fn of(
+        call: impl Fn(&mut lyapunov_sys::Outputs) -> u64,
+        rows: &mut [f64],
+        exponents: &mut [f64],
+        final_state: &mut [f64],
+    ) -> Self {
         let (mut counts, mut times) = ([0; 3 + MAX_DIMENSION], [0.0; 2]);
-        let mut outputs = lyapunov_sys::Outputs {
+        let number = call(&mut lyapunov_sys::Outputs {
             rows,
             exponents,
             final_state,
             counts: &mut counts,
             times: &mut times,
-        };
-        let number = lyapunov_sys::estimate_spectrum_at(
-            &self.system,
-            self.time,
-            self.state,
-            &self.config,
-            &mut outputs,
-        );
-        Report {
+        });
+        Self {
             number,
             counts,
             times,
         }
     }
-}
 
-impl Report {
     fn answer(&self) -> Result<()> {
         answered(self.number, self.counts[0])
     }

@@ -90,7 +90,7 @@ fn fuzz(limits: &Limits, tally: &mut Tally) -> Result<(), String> {
 /// The call that the bytes say; answers an error where something differs.
 fn one(bytes: &[u8], tally: &mut Tally) -> Result<(), String> {
     let mut bytes = Bytes::of(bytes);
-    let (function, refusal) = match bytes.below(16) {
+    let (function, refusal) = match bytes.below(20) {
         0 => ("sqrt", leaves::sqrt(&mut bytes)),
         1 => ("ln", leaves::ln(&mut bytes)),
         2 => ("splitmix64_next", leaves::next(&mut bytes)),
@@ -101,7 +101,9 @@ fn one(bytes: &[u8], tally: &mut Tally) -> Result<(), String> {
         7 => ("kolmogorov_sinai_entropy", slices::entropy(&mut bytes)),
         8 | 9 => ("modified_gram_schmidt", slices::orthonormalise(&mut bytes)),
         10..=12 => ("step", slices::step(&mut bytes)),
-        _ => ("estimate_spectrum_at", run::estimate(&mut bytes)),
+        13..=15 => ("estimate_spectrum_at", run::spectrum_at(&mut bytes)),
+        16 | 17 => ("estimate_spectrum", run::spectrum(&mut bytes)),
+        _ => ("estimate_largest", run::largest(&mut bytes)),
     };
     let number = refusal.map_err(|message| format!("{function}: {message}"))?;
     tally.met(function, number);

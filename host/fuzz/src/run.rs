@@ -45,8 +45,17 @@ fn place_of(
     }
 }
 
+/// Which function makes a run.
+#[derive(Clone, Copy)]
+enum Entry {
+    SpectrumAt,
+    Spectrum,
+    Largest,
+}
+
 /// What is handed to a run.
 struct Input {
+    entry: Entry,
     circuit: Circuit,
     config: model::Config,
     time: f64,
@@ -56,7 +65,7 @@ struct Input {
 }
 
 impl Input {
-    fn read(bytes: &mut Bytes) -> Self {
+    fn read(bytes: &mut Bytes, entry: Entry) -> Self {
         let circuit = Circuit::read(bytes);
         let d = circuit.dimension();
         let mut config = config(bytes);
@@ -66,6 +75,10 @@ impl Input {
         }
         if bytes.below(40) == 0 {
             config.transient_windows = model::COUNT_LIMIT + 1;
+        }
+        if let Entry::Largest = entry {
+            (config.top_k, config.transient_windows) = (1, 0);
+            config.seed = model::DEFAULT_SEED;
         }
         let time = bytes.float();
         let length = bytes.length(d);
@@ -78,6 +91,7 @@ impl Input {
             bytes.length(d),
         ];
         Self {
+            entry,
             circuit,
             config,
             time,
@@ -107,10 +121,21 @@ struct Output {
     slices: [Vec<f64>; 3],
 }
 
-pub fn estimate(bytes: &mut Bytes) -> Result<u64, String> {
-    let input = Input::read(bytes);
-    let library = by_library(&input)?;
-    let model = by_model(&input);
+pub fn spectrum_at(bytes: &mut Bytes) -> Result<u64, String> {
+    estimate(&Input::read(bytes, Entry::SpectrumAt))
+}
+
+pub fn spectrum(bytes: &mut Bytes) -> Result<u64, String> {
+    estimate(&Input::read(bytes, Entry::Spectrum))
+}
+
+pub fn largest(bytes: &mut Bytes) -> Result<u64, String> {
+    estimate(&Input::read(bytes, Entry::Largest))
+}
+
+fn estimate(input: &Input) -> Result<u64, String> {
+    let library = by_library(input)?;
+    let model = by_model(input);
     for (name, at) in [("rows", 0), ("exponents", 1), ("final state", 2)] {
         same::floats(name, &library.slices[at], &model.slices[at])?;
     }
@@ -140,13 +165,20 @@ fn by_library(input: &Input) -> Result<Output, String> {
         times: times.array_mut(),
     };
     let system = input.circuit.for_library(matrix.slice());
-    let number = lyapunov_sys::estimate_spectrum_at(
-        &system,
-        input.time,
-        state.slice(),
-        &input.settings(),
-        &mut outputs,
-    );
+    let (state_slice, config) = (state.slice(), input.settings());
+    let (h, steps, windows) = (config.step_size, config.steps_per_window, config.windows);
+    let number = match input.entry {
+        Entry::SpectrumAt => {
+            let time = input.time;
+            lyapunov_sys::estimate_spectrum_at(&system, time, state_slice, &config, &mut outputs)
+        }
+        Entry::Spectrum => {
+            lyapunov_sys::estimate_spectrum(&system, state_slice, &config, &mut outputs)
+        }
+        Entry::Largest => {
+            lyapunov_sys::estimate_largest(&system, state_slice, h, steps, windows, &mut outputs)
+        }
+    };
     matrix.unchanged(&input.circuit.matrix)?;
     state.unchanged(&input.state)?;
     let counts = counts.returned()?;
@@ -173,13 +205,13 @@ fn by_model(input: &Input) -> Output {
         exponents,
         final_state,
     };
-    let estimate = model::estimate(
-        &input.circuit.for_model(),
-        input.time,
-        &input.state,
-        &input.config,
-        &mut outputs,
-    );
+    let (circuit, state, config) = (input.circuit.for_model(), &input.state, &input.config);
+    let (h, steps, windows) = (config.step_size, config.steps_per_window, config.windows);
+    let estimate = match input.entry {
+        Entry::SpectrumAt => model::estimate(&circuit, input.time, state, config, &mut outputs),
+        Entry::Spectrum => model::estimate_spectrum(&circuit, state, config, &mut outputs),
+        Entry::Largest => model::estimate_largest(&circuit, state, h, steps, windows, &mut outputs),
+    };
     let (number, place) = estimate
         .refusal
         .map_or((0, 0), |refusal| (refusal.number, refusal.place));

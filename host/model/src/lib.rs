@@ -17,7 +17,10 @@ pub use arithmetic::{
 };
 pub use orthonormalise::orthonormalise;
 pub use rates::{entropy, kaplan_yorke_dimension, spectrum_program};
-pub use run::{build_config, counts_over_limit, estimate, Config, Estimate, Outputs, COUNT_LIMIT};
+pub use run::{
+    build_config, counts_over_limit, estimate, estimate_largest, estimate_spectrum, Config,
+    Estimate, Outputs, COUNT_LIMIT, DEFAULT_SEED,
+};
 pub use step::step;
 pub use system::{Circuit, System};
 

@@ -9,6 +9,9 @@ use crate::{
 /// The largest value of each of the three counts.
 pub const COUNT_LIMIT: u64 = 16_777_216;
 
+/// The seed of settings for which no other is set.
+pub const DEFAULT_SEED: u64 = 0x4c59_4150_554e_4f56;
+
 /// Squared lengths below this are counted as faint: 2^-960.
 const FAINT_BELOW: f64 = f64::from_bits((1023 - 960) << 52);
 
@@ -90,6 +93,36 @@ pub fn estimate(
             measured_time,
         },
     }
+}
+
+/// A run from time 0.
+pub fn estimate_spectrum(
+    circuit: &Circuit,
+    state: &[f64],
+    config: &Config,
+    outputs: &mut Outputs,
+) -> Estimate {
+    estimate(circuit, 0.0, state, config, outputs)
+}
+
+/// A run from time 0 for one exponent, with no warm-up and the default seed.
+pub fn estimate_largest(
+    circuit: &Circuit,
+    state: &[f64],
+    step_size: f64,
+    steps_per_window: u64,
+    windows: u64,
+    outputs: &mut Outputs,
+) -> Estimate {
+    let config = Config {
+        top_k: 1,
+        step_size,
+        steps_per_window,
+        windows,
+        transient_windows: 0,
+        seed: DEFAULT_SEED,
+    };
+    estimate_spectrum(circuit, state, &config, outputs)
 }
 
 fn refused(refusal: Refusal, finished: u64, steps: u64) -> Estimate {

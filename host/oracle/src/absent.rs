@@ -14,6 +14,14 @@ impl Oracle {
         match *self {}
     }
 
+    pub fn estimate_spectrum(&self, _: Circuit, _: &[f64], _: &Config) -> Run {
+        match *self {}
+    }
+
+    pub fn estimate_largest(&self, _: Circuit, _: &[f64], _: &Config) -> Run {
+        match *self {}
+    }
+
     pub fn exponents(&self, _: Circuit, _: f64, _: &[f64], _: &Config) -> End<Vec<f64>> {
         match *self {}
     }

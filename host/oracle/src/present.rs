@@ -23,19 +23,27 @@ impl Oracle {
         state: &[f64],
         config: &Config,
     ) -> Run {
-        let mut stepper = Counted {
-            rk4: source::Rk4::new(circuit),
-            passed: 0,
-        };
-        let estimate = benettin_config(config)
-            .and_then(|config| source::estimate_spectrum_at(&mut stepper, time, state, &config));
-        let end = ended(estimate.map(|estimate| spectrum(&estimate)), Call::Run);
-        let (steps, finished) = progress(&end, stepper.passed, config);
-        Run {
-            end,
-            steps,
-            finished,
-        }
+        counted(circuit, config, |stepper| {
+            let config = benettin_config(config)?;
+            source::estimate_spectrum_at(stepper, time, state, &config)
+        })
+    }
+
+    /// A run of the source from time 0.
+    pub fn estimate_spectrum(&self, circuit: Circuit, state: &[f64], config: &Config) -> Run {
+        counted(circuit, config, |stepper| {
+            let config = benettin_config(config)?;
+            source::estimate_spectrum(stepper, state, &config)
+        })
+    }
+
+    /// A run of the source for the largest exponent. Of the settings it takes the step size, the
+    /// steps a window and the windows; the others must be those that it sets.
+    pub fn estimate_largest(&self, circuit: Circuit, state: &[f64], config: &Config) -> Run {
+        counted(circuit, config, |stepper| {
+            let (h, steps, windows) = (config.step_size, config.steps_per_window, config.windows);
+            source::estimate_largest(stepper, state, h, steps, windows)
+        })
     }
 
     /// The exponents of a run and nothing else of it, for timing: what is not the source's own
@@ -140,6 +148,26 @@ impl TangentStepper for Counted<'_> {
             .step(time, state, tangents, tangent_count, step_size);
         self.passed += u64::from(answer.is_ok());
         answer
+    }
+}
+
+/// A run with a stepper that counts.
+fn counted(
+    circuit: Circuit,
+    config: &Config,
+    run: impl FnOnce(&mut Counted) -> Result<source::SpectrumEstimate>,
+) -> Run {
+    let mut stepper = Counted {
+        rk4: source::Rk4::new(circuit),
+        passed: 0,
+    };
+    let estimate = run(&mut stepper);
+    let end = ended(estimate.map(|estimate| spectrum(&estimate)), Call::Run);
+    let (steps, finished) = progress(&end, stepper.passed, config);
+    Run {
+        end,
+        steps,
+        finished,
     }
 }
 

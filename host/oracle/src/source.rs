@@ -35,7 +35,7 @@ mod estimator {
 pub use diagnostics::{kaplan_yorke_dimension, kolmogorov_sinai_entropy};
 pub use error::LyapunovError;
 pub use estimator::{
-    estimate_spectrum_at, probe_modified_gram_schmidt, probe_next_u64, probe_symmetric_unit,
-    BenettinConfig, SpectrumEstimate,
+    estimate_largest, estimate_spectrum, estimate_spectrum_at, probe_modified_gram_schmidt,
+    probe_next_u64, probe_symmetric_unit, BenettinConfig, SpectrumEstimate,
 };
 pub use system::{ContinuousSystem, Rk4, TangentStepper};

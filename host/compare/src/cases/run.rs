@@ -9,8 +9,17 @@ use lent::Lent;
 use lyapunov_sys::LINKED;
 use oracle::{End, Oracle};
 
+/// Which function is asked for a run.
+#[derive(Clone, Copy, Debug)]
+pub enum Entry {
+    SpectrumAt,
+    Spectrum,
+    Largest,
+}
+
 #[derive(Clone, Debug)]
 pub struct Run {
+    pub entry: Entry,
     pub circuit: Circuit,
     pub settings: Settings,
     pub time: f64,
@@ -53,6 +62,7 @@ impl Case for Run {
 
     fn read(fields: &mut Fields) -> Result<Self, String> {
         Ok(Self {
+            entry: Entry::SpectrumAt,
             circuit: Circuit::read(fields)?,
             settings: Settings::read(fields)?,
             time: fields.float("t0")?,
@@ -93,13 +103,7 @@ impl Case for Run {
             exponents: &mut exponents,
             final_state: &mut final_state,
         };
-        let estimate = model::estimate(
-            &self.circuit.for_model(),
-            self.time,
-            &self.state,
-            &self.settings.for_model(),
-            &mut outputs,
-        );
+        let estimate = self.run_of_model(&mut outputs);
         let number = estimate.refusal.map_or(0, |refusal| refusal.number);
         Answer::default()
             .with("num", Value::Count(number))
@@ -150,6 +154,7 @@ impl Run {
     pub fn fitting(circuit: Circuit, settings: Settings, time: f64, state: Vec<f64>) -> Self {
         let (k, d) = (settings.top_k as usize, circuit.dimension());
         Self {
+            entry: Entry::SpectrumAt,
             circuit,
             settings,
             time,
@@ -158,6 +163,31 @@ impl Run {
             exponents: k,
             final_state: d,
         }
+    }
+
+    /// The run that `estimate_spectrum` makes: from time 0.
+    pub fn at_zero(mut self) -> Self {
+        self.entry = Entry::Spectrum;
+        self.time = 0.0;
+        self
+    }
+
+    /// The run that `estimate_largest` makes: from time 0 for one exponent, with no warm-up and the
+    /// default seed. Outputs that just fitted just fit again.
+    pub fn largest(self) -> Self {
+        let width = |top_k: u64| top_k.saturating_mul(2).saturating_add(1);
+        let (before, windows) = (self.settings.top_k, self.settings.windows);
+        let [rows, fewer] = [before, 1].map(|top_k| windows.saturating_mul(width(top_k)) as usize);
+        let mut run = self.at_zero();
+        run.entry = Entry::Largest;
+        run.settings.top_k = 1;
+        run.settings.transient_windows = 0;
+        run.settings.seed = model::DEFAULT_SEED;
+        run.rows = run.rows.saturating_sub(rows.saturating_sub(fewer));
+        run.exponents = run
+            .exponents
+            .saturating_sub((before as usize).saturating_sub(1));
+        run
     }
 
     /// The library's run.
@@ -176,13 +206,8 @@ impl Run {
             counts: counts.array_mut(),
             times: times.array_mut(),
         };
-        let number = lyapunov_sys::estimate_spectrum_at(
-            &self.circuit.for_library(matrix.slice()),
-            self.time,
-            state.slice(),
-            &self.settings.for_library(),
-            &mut outputs,
-        );
+        let system = self.circuit.for_library(matrix.slice());
+        let number = self.run_of_library(&system, state.slice(), &mut outputs);
         matrix.unchanged(&self.circuit.matrix)?;
         state.unchanged(&self.state)?;
         let (counts, times) = (counts.returned()?, times.returned()?);
@@ -198,6 +223,36 @@ impl Run {
             exponents: exponents.returned()?,
             final_state: final_state.returned()?,
         })
+    }
+
+    fn run_of_library(
+        &self,
+        system: &lyapunov_sys::System,
+        state: &[f64],
+        outputs: &mut lyapunov_sys::Outputs,
+    ) -> u64 {
+        let config = self.settings.for_library();
+        let (h, steps, windows) = (config.step_size, config.steps_per_window, config.windows);
+        match self.entry {
+            Entry::SpectrumAt => {
+                lyapunov_sys::estimate_spectrum_at(system, self.time, state, &config, outputs)
+            }
+            Entry::Spectrum => lyapunov_sys::estimate_spectrum(system, state, &config, outputs),
+            Entry::Largest => {
+                lyapunov_sys::estimate_largest(system, state, h, steps, windows, outputs)
+            }
+        }
+    }
+
+    fn run_of_model(&self, outputs: &mut model::Outputs) -> model::Estimate {
+        let (circuit, config) = (self.circuit.for_model(), self.settings.for_model());
+        let (h, steps, windows) = (config.step_size, config.steps_per_window, config.windows);
+        let state = &self.state;
+        match self.entry {
+            Entry::SpectrumAt => model::estimate(&circuit, self.time, state, &config, outputs),
+            Entry::Spectrum => model::estimate_spectrum(&circuit, state, &config, outputs),
+            Entry::Largest => model::estimate_largest(&circuit, state, h, steps, windows, outputs),
+        }
     }
 
     /// The first failing test of those that the source does not have: 5, 8, 9, 13.
@@ -223,7 +278,13 @@ impl Run {
         let mut config = self.settings.for_source();
         config.windows = windows as usize;
         let circuit = self.circuit.for_source(may_evaluate);
-        oracle.estimate_spectrum_at(circuit, self.time, &self.state, &config)
+        match self.entry {
+            Entry::SpectrumAt => {
+                oracle.estimate_spectrum_at(circuit, self.time, &self.state, &config)
+            }
+            Entry::Spectrum => oracle.estimate_spectrum(circuit, &self.state, &config),
+            Entry::Largest => oracle.estimate_largest(circuit, &self.state, &config),
+        }
     }
 
     /// The rows of the source's run for `windows` windows.

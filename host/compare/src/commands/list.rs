@@ -126,7 +126,7 @@ impl List {
     fn draws(&mut self) -> Result<(), String> {
         let draw = |state, turns| Draw { state, turns };
         self.add(&draw(1234567, 5), "published outputs")?;
-        self.add(&draw(edges::DEFAULT_SEED, 9), "default seed")?;
+        self.add(&draw(model::DEFAULT_SEED, 9), "default seed")?;
         for n in [0, 1 << 52, (1 << 53) - 1] {
             let state = seeds::seed_with_draw(&mut self.random, 0, n);
             self.add(&draw(state, 2), "marked draw")?;

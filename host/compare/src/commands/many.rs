@@ -65,6 +65,24 @@ pub fn runs(inputs: Inputs) -> bool {
     agree && (met == pairs || inputs.count < ENOUGH)
 }
 
+/// Runs from time 0, by `estimate_largest` and by `estimate_spectrum`. From there the measured time
+/// is finite where the time is, and a first window that is measured at once does not refuse by 18.
+pub fn from_zero(inputs: Inputs) -> bool {
+    let mut expected: Vec<(u64, &str)> = [2, 3, 4, 5, 7, 8, 9, 10, 11, 13, 15]
+        .map(|number| (number, ""))
+        .to_vec();
+    expected.extend(SYSTEMS.map(|system| (0, system)));
+    expected.extend([(0, FAINT), (0, INFINITE_RATE)]);
+    expected.extend([14, 16, 17, 18].map(|number| (number, AFTER_ROWS)));
+    expected.extend([14, 16, 17].map(|number| (number, BEFORE_ROWS)));
+    let largest = |index, random: &mut Random| generate::runs::run(index, random).largest();
+    let one = compare::<Run>("estimate_largest", inputs, largest, run_label, &expected);
+    expected.extend([(1, ""), (12, ""), (14, AT_DRAW), (18, BEFORE_ROWS)]);
+    expected.extend([14, 16, 17, 18].map(|number| (number, IN_WARM_UP)));
+    let all = |index, random: &mut Random| generate::runs::run(index, random).at_zero();
+    compare::<Run>("estimate_spectrum", inputs, all, run_label, &expected) && one
+}
+
 const FAINT: &str = ", a faint direction";
 const INFINITE_RATE: &str = ", an infinite rate";
 const INFINITE_TIME: &str = ", infinite measured time";

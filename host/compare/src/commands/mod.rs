@@ -8,7 +8,7 @@ mod replay;
 
 pub use leaves::leaves;
 pub use list::write_list;
-pub use many::{orthonormalise, rates, runs, settings, step};
+pub use many::{from_zero, orthonormalise, rates, runs, settings, step};
 pub use pairs::pairs;
 pub use replay::replay;
 

@@ -8,9 +8,6 @@ use crate::circuit::{Circuit, System};
 use crate::random::Random;
 use crate::values::Answer;
 
-/// The seed of settings that name none.
-pub const DEFAULT_SEED: u64 = 0x4c59_4150_554e_4f56;
-
 /// Settings with one step a window, one window, no warm-up and the default seed.
 pub fn settings(top_k: u64, step_size: f64) -> Settings {
     Settings {
@@ -19,7 +16,7 @@ pub fn settings(top_k: u64, step_size: f64) -> Settings {
         steps_per_window: 1,
         windows: 1,
         transient_windows: 0,
-        seed: DEFAULT_SEED,
+        seed: model::DEFAULT_SEED,
     }
 }
 
