@@ -19,6 +19,7 @@ use Rattle.error.proofs.Tests.{skip, first-append}
 use Rattle.floats.specs.Vector.{concat}
 use Rattle.floats.specs.Finite.{first-not-finite}
 use Rattle.floats.specs.Arithmetic.{_⊕_, zero⁺}
+use Rattle.floats.proofs.Updated.{map-take, zip-take}
 use Rattle.floats.proofs.Vector.{Sized, length-concat, map-sized}
 use Rattle.system.specs.System.{dim}
 use Rattle.rk4.proofs.Lengths.{direction-length}
@@ -27,7 +28,7 @@ use Rattle.benettin.specs.Run.{Dynamics, Problem, RunState, Status, ok, 
 use Rattle.benettin.specs.Run.{accumulate, row, initial, check-duration, course-of, RunAnswer, ended, stopped, answer, OutputLengths, no-faint, run-past, run, output-tests, run-tests}
 use Rattle.benettin.specs.LeadingSpectrum.{leading-row, leading, AtOrAbove, RefusedFrom, number, LeadingSpectrum}
 use Rattle.benettin.specs.Estimate.{Input, early-tests, problem, dynamics, estimate}
-use Rattle.benettin.proofs.Prefix.{cut-at, cut-none, cut-some, map-take, zip-take, take-replicate, drawn-directions-take, drawn-directions-sized, drawn-directions-length}
+use Rattle.benettin.proofs.Prefix.{cut-at, cut-none, cut-some, take-replicate, drawn-directions-take, drawn-directions-sized, drawn-directions-length}
 use Rattle.benettin.proofs.Prefix.{first-not-finite-directions, Below, first-not-finite-below, cut, orthonormalise-take, orthonormalise-sized, Whole, orthonormalise-whole}
 use Rattle.benettin.proofs.Simulation.{Frame, Fine, Gone, Similar, SimilarCourses, Law, similar-course}
 

@@ -14,7 +14,6 @@ use Rattle.benettin.specs.Run.{Generator, draws, drawn-directions, gener
 use Rattle.floats.specs.Vector.{concat}
 use lib.Ieee.Scale.{finite}
 use Rattle.floats.specs.Finite.{first-not-finite}
-use Rattle.rk4.specs.Stepper.{zip}
 use Rattle.floats.specs.Arithmetic.{_⊘_}
 use Rattle.floats.proofs.Vector.{Sized, concat-take}
 use Rattle.gram_schmidt.proofs.Loops.{orthogonalise-length}
@@ -45,18 +44,6 @@ cut-some (suc k) (suc i) = go (cut-some k i)
     go (inr h) = inr (omega arith)
 
 -- ---- lists
-
-pub map-take {a b} : {A : Type a} {B : Type b} (f : A → B) (k : ℕ) (l : List A) → map f (take k l) ≡ take k (map f l)
-map-take f zero l = refl
-map-take f (suc k) [] = refl
-map-take f (suc k) (x ∷ l) = ap (λ t. f x ∷ t) (map-take f k l)
-
-pub zip-take {a b c} : {A : Type a} {B : Type b} {C : Type c} (f : A → B → C) (k : ℕ) (l : List A) (m : List B) → zip f (take k l) (take k m) ≡ take k (zip f l m)
-unfolding zip
-zip-take f zero l m = refl
-zip-take f (suc k) [] m = refl
-zip-take f (suc k) (x ∷ l) [] = refl
-zip-take f (suc k) (x ∷ l) (y ∷ m) = ap (λ t. f x y ∷ t) (zip-take f k l m)
 
 pub take-replicate {a} : {A : Type a} (x : A) (k n : ℕ) → k ≤ n → take k (replicate n x) ≡ replicate k x
 take-replicate x zero n h = refl

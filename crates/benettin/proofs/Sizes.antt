@@ -10,8 +10,7 @@ use lib.Ieee.{Float}
 use lib.Ieee.Scale.{finite}
 use Rattle.floats.specs.Arithmetic.{_⊕_, _⊘_, zero⁺}
 use Rattle.floats.specs.Finite.{first-not-finite}
-use Rattle.floats.specs.Vector.{concat}
-use Rattle.rk4.specs.Stepper.{zip}
+use Rattle.floats.specs.Vector.{concat, zip}
 use Rattle.gram_schmidt.specs.Orthonormalise.{Lengths, Basis, collapsed, orthogonalise, with-direction, orthonormalise}
 use Rattle.benettin.specs.Run.{Dynamics, Problem, RunState, Status, ok, refused, refused-at, _then_, tested, stepped, step, steps, unless-collapsed, reorthonormalise, faint-or-not, count-faint, window}
 use Rattle.benettin.specs.Run.{warm-up, Course, accumulate, row, with-row, measured, check-duration, warmed-up, measured-from, course, course-of, initial}

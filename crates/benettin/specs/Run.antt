@@ -12,8 +12,7 @@ use Rattle.error.specs.Tests.{Test, test, first-failing}
 use Rattle.error.specs.declared.Refusal.{Refusal}
 use Rattle.floats.specs.Arithmetic.{_⊕_, _⊗_, _⊘_, zero⁺}
 use Rattle.floats.specs.Finite.{first-not-finite}
-use Rattle.floats.specs.Vector.{concat}
-use Rattle.rk4.specs.Stepper.{zip}
+use Rattle.floats.specs.Vector.{concat, zip}
 use Rattle.gram_schmidt.specs.Orthonormalise.{Lengths, Basis, orthonormalise}
 
 -- ---- what a run is handed, apart from K and the outputs

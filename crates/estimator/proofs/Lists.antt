@@ -2,63 +2,19 @@
 use Prim.Native.Nat.{ℕ, zero, suc, _+_, _≤_, _<_}
 use native.Mathlib.Numerals.{add-one}
 use native.Mathlib.Omega.{arith}
-use mathlib.Core.Path.{_≡_, refl, sym, ap, _∙_}
+use mathlib.Core.Path.{_≡_, sym, ap, _∙_}
 use mathlib.Core.List.{List, [], _∷_, _++_, map, append-nil}
-use lib.ListN.{length, take, drop, getD, set, drop-of-length-le, take-append-drop, length-set}
-use lib.Seq.{drop-cons, take-suc-set, drop-set-lt, append-snoc, take-all, set-getD, getD-set-other}
+use lib.ListN.{length, take, drop, getD, set, drop-of-length-le, length-set}
+use lib.Seq.{drop-cons, take-suc-set, append-snoc, take-all, getD-set-other}
 use lib.Ieee.{Float, nan}
 use mathlib.Core.Bool.{Bool, true, false, cond}
-use Rattle.rk4.specs.Stepper.{zip}
+use Rattle.floats.specs.Vector.{updated}
+use Rattle.floats.proofs.Updated.{updated-next, updated-same}
 use Rattle.gram_schmidt.specs.GramSchmidt.{euclidean}
 use Rattle.benettin.specs.Run.{row}
-use Rattle.estimator.specs.Progress.{updated, counted}
+use Rattle.estimator.specs.Progress.{counted}
 
--- ---- entry by entry, in place
-
-module _ {a b} {A : Type a} {B : Type b} (f : A → B → A) where
-  pub updated-next : (xs : List A) (ys : List B) (i : ℕ) (x : A) (y : B) → i < length xs → i < length ys
-      → take i xs ++ updated f (drop i xs) (drop i ys)
-      ≡ take (i + 1) (set xs i (f (getD xs i x) (getD ys i y))) ++ updated f (drop (i + 1) (set xs i (f (getD xs i x) (getD ys i y)))) (drop (i + 1) ys)
-  unfolding updated
-  updated-next xs ys i x y h g =
-      let z = f (getD xs i x) (getD ys i y) in
-      rw (add-one, take-suc-set xs i z h, drop-set-lt (suc i) xs i z (omega arith), drop-cons xs i x h, drop-cons ys i y g)
-      (sym (append-snoc (take i xs) z (updated f (drop (suc i) xs) (drop (suc i) ys))))
-
-  -- an entry that is left as it is
-  pub updated-same : (xs : List A) (ys : List B) (i : ℕ) (x : A) (y : B) → i < length xs → i < length ys → f (getD xs i x) (getD ys i y) ≡ getD xs i x
-      → take i xs ++ updated f (drop i xs) (drop i ys) ≡ take (i + 1) xs ++ updated f (drop (i + 1) xs) (drop (i + 1) ys)
-  updated-same xs ys i x y h g e = updated-next xs ys i x y h g ∙ rw (e, set-getD xs i x)
-
-  updated-none : (xs : List A) → updated f xs [] ≡ xs
-  unfolding updated
-  updated-none [] = refl
-  updated-none (x ∷ xs) = refl
-
-  pub updated-end : (xs : List A) (ys : List B) (i : ℕ) → length ys ≤ i → take i xs ++ updated f (drop i xs) (drop i ys) ≡ xs
-  updated-end xs ys i h = rw (drop-of-length-le ys h, updated-none (drop i xs)) (take-append-drop i xs)
-
-  pub updated-length : (xs : List A) (ys : List B) → length (updated f xs ys) ≡ length xs
-  unfolding updated
-  updated-length [] ys = refl
-  updated-length (x ∷ xs) [] = refl
-  updated-length (x ∷ xs) (y ∷ ys) = ap suc (updated-length xs ys)
-
-  -- the entries that were gone over, and those behind them
-  pub updated-take : (xs : List A) (ys : List B) (k : ℕ) → length ys ≡ k → k ≤ length xs → take k (updated f xs ys) ≡ zip f (take k xs) ys
-  unfolding updated zip
-  updated-take xs [] zero e h = refl
-  updated-take xs [] (suc k) e h = absurd (omega arith)
-  updated-take xs (y ∷ ys) zero e h = absurd (omega arith)
-  updated-take [] (y ∷ ys) (suc k) e h = absurd (omega arith)
-  updated-take (x ∷ xs) (y ∷ ys) (suc k) e h = ap (λ (t : List A). f x y ∷ t) (updated-take xs ys k (omega arith) (omega arith))
-
-  pub updated-drop : (xs : List A) (ys : List B) (k : ℕ) → length ys ≤ k → drop k (updated f xs ys) ≡ drop k xs
-  unfolding updated
-  updated-drop [] ys k e = refl
-  updated-drop (x ∷ xs) [] k e = refl
-  updated-drop (x ∷ xs) (y ∷ ys) zero e = absurd (omega arith)
-  updated-drop (x ∷ xs) (y ∷ ys) (suc k) e = updated-drop xs ys k (omega arith)
+-- ---- the faint counts
 
 cond-more : (b : Bool) (n : ℕ) → cond b (suc n) n ≤ n + 1
 cond-more true n = omega arith

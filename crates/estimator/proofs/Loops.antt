@@ -16,19 +16,19 @@ use Rattle.error.specs.declared.LyapunovError.{LyapunovError}
 use Rattle.error.specs.declared.Outcome.{Outcome}
 use Rattle.error.specs.declared.Outcome.the-variants.{Accepted, Refused}
 use Rattle.floats.specs.Arithmetic.{_⊕_, _⊗_, _⊘_}
+use Rattle.floats.specs.Vector.{zip, updated}
 use Rattle.floats.proofs.Sets.{sets-append}
+use Rattle.floats.proofs.Updated.{updated-take, updated-length}
 use Rattle.floats.proofs.Vector.{vector-fits}
 use Rattle.system.specs.System.{dim}
-use Rattle.rk4.specs.Stepper.{zip}
 use Rattle.rk4.proofs.Tests.{Passed}
 use Rattle.system.specs.declared.System.{System}
 use Rattle.benettin.specs.Run.{Dynamics, RunState, RunRefusal, Status, ok, refused, steps, window, warm-up, measured, measured-from, with-row, accumulate, row, as-float, Course, _then_}
 use Rattle.benettin.specs.Estimate.{dynamics}
 use Rattle.benettin.specs.Outputs.{flat-row, flat-rows}
 use Rattle.benettin.specs.Validation.{Ready}
-use Rattle.estimator.specs.Progress.{run-state, refused-by, status, updated, with-sums, Within, Room, Fitting, Recorded, recorded, written, with-row-of}
+use Rattle.estimator.specs.Progress.{run-state, refused-by, status, with-sums, Within, Room, Fitting, Recorded, recorded, written, with-row-of}
 use Rattle.estimator.specs.declared.Progress.{Progress}
-use Rattle.estimator.proofs.Lists.{updated-take, updated-length}
 
 -- ---- what is kept beside the definitions
 

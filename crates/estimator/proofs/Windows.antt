@@ -16,10 +16,10 @@ use Rattle.error.specs.declared.LyapunovError.{LyapunovError}
 use Rattle.error.specs.declared.Refusal.{Refusal}
 use Rattle.error.specs.declared.Outcome.{Outcome}
 use Rattle.error.specs.declared.Outcome.the-variants.{Accepted, Refused}
-use Rattle.floats.specs.Vector.{chunks, concat}
+use Rattle.floats.specs.Vector.{zip, updated, chunks, concat}
+use Rattle.floats.proofs.Updated.{updated-take, updated-drop, updated-length}
 use Rattle.floats.proofs.Vector.{Sized, chunks-sized, chunks-concat, chunks-length}
 use Rattle.system.specs.System.{dim}
-use Rattle.rk4.specs.Stepper.{zip}
 use Rattle.system.specs.declared.System.{System}
 use Rattle.gram_schmidt.specs.Orthonormalise.{Basis, orthonormalise}
 use Rattle.gram_schmidt.specs.GramSchmidt as GramSchmidt
@@ -31,10 +31,10 @@ use Rattle.benettin.specs.Window.{Advanced, Windowed, advance-steps, observed, 
 use Rattle.benettin.specs.declared.window.Advance.{Advance}
 use Rattle.benettin.proofs.Steps.{Follows, steps-follow}
 use Rattle.benettin.proofs.Prefix.{orthonormalise-sized, orthonormalise-whole}
-use Rattle.estimator.specs.Progress.{run-state, refused-by, status, after-steps, with-faint, updated, counted, Within, Fitting}
+use Rattle.estimator.specs.Progress.{run-state, refused-by, status, after-steps, with-faint, counted, Within, Fitting}
 use Rattle.estimator.specs.declared.Progress.{Progress}
 use Rattle.estimator.proofs.Loops.{passed-of}
-use Rattle.estimator.proofs.Lists.{updated-take, updated-drop, updated-length, counted-more}
+use Rattle.estimator.proofs.Lists.{counted-more}
 
 -- ---- the orthonormaliser's answer
 

@@ -2,7 +2,7 @@
 use Prim.Native.Nat.{ℕ, _+_, _*_, _≤_, _<_, _^_}
 use mathlib.Core.Path.{_≡_}
 use mathlib.Core.Bool.{true}
-use mathlib.Core.List.{List, [], _∷_}
+use mathlib.Core.List.{List}
 use lib.ListN.{length, take, drop, getD}
 use lib.Seq.{sets}
 use lib.Ieee.{Float}
@@ -57,12 +57,6 @@ with-faint p f = record { outcome = p .outcome; windows = p .windows; steps = p 
 -- p with one measured window more
 abbrev pub with-sums : Progress → List Float → Progress
 with-sums p s = record { outcome = p .outcome; windows = p .windows + 1; steps = p .steps; time = p .time; faint = p .faint; sums = s }
-
--- f at each entry of xs that ys has one for
-unfoldable pub updated {a b} : {A : Type a} {B : Type b} → (A → B → A) → List A → List B → List A
-updated f [] ys = []
-updated f (x ∷ xs) [] = x ∷ xs
-updated f (x ∷ xs) (y ∷ ys) = f x y ∷ updated f xs ys
 
 -- a count, with one more if the squared length is faint
 abbrev pub counted : ℕ → Float → ℕ

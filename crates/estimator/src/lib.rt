@@ -15,6 +15,7 @@ ghost use mathlib.Core.Option.{none};
 ghost use lib.ListN.{length, take, getD};
 ghost use lib.Ieee.Scale.{finite};
 ghost use Rattle.floats.specs.Arithmetic.{_⊕_, _⊗_, _⊘_};
+ghost use Rattle.floats.specs.Vector.{updated};
 ghost use Rattle.system.specs.System.{dim};
 ghost use Rattle.benettin.specs.Run as Run;
 ghost use Rattle.benettin.specs.Estimate as Estimate;
@@ -58,7 +59,7 @@ fn after_steps(from: Progress, outcome: Outcome, time: f64, made: u64) -> Progre
 // The progress with the faint counts of one window more.
 fn count_faint(from: Progress, squares: &[f64]) -> Progress
     requires { ⌜ (length (now squares) ≤ 16) × ((i : ℕ) → getD (from .faint) i 0 + 1 < 2 ^ 64) × (length (from .faint) ≡ 16) ⌝ }
-    ensures { λ r. ⌜ r ≡ Under.with-faint from (Under.updated Under.counted (from .faint) (now (squares .entry))) ⌝ }
+    ensures { λ r. ⌜ r ≡ Under.with-faint from (updated Under.counted (from .faint) (now (squares .entry))) ⌝ }
 {
     let mut out = from.faint;
     let mut i = 0;
@@ -77,7 +78,7 @@ fn count_faint(from: Progress, squares: &[f64]) -> Progress
 // The progress with one measured window more.
 fn add_logs(from: Progress, logs: &[f64]) -> Progress
     requires { ⌜ (length (now logs) ≤ 16) × (from .windows + 1 < 2 ^ 64) × (length (from .sums) ≡ 16) ⌝ }
-    ensures { λ r. ⌜ r ≡ Under.with-sums from (Under.updated (_⊕_) (from .sums) (now (logs .entry))) ⌝ }
+    ensures { λ r. ⌜ r ≡ Under.with-sums from (updated (_⊕_) (from .sums) (now (logs .entry))) ⌝ }
 {
     let mut out = from.sums;
     let mut i = 0;

@@ -9,4 +9,5 @@ pub mod OneForm
 pub mod Ordinary
 pub mod Sets
 pub mod Fill
+pub mod Updated
 pub mod Vector

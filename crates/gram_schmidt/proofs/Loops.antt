@@ -5,22 +5,17 @@ use native.Mathlib.Numerals.{add-one}
 use native.Mathlib.Omega.{arith}
 use mathlib.Core.Path.{_≡_, refl, sym, ap, _∙_}
 use mathlib.Core.List.{List, [], _∷_}
-use lib.ListN.{length, drop, getD, set, length-set}
-use lib.Seq.{sets, length-sets, drop-set-lt, drop-drop, getD-set-same, getD-set-other}
+use lib.ListN.{length, drop, getD, set, length-set, drop-of-length-le}
+use lib.Seq.{sets, length-sets, drop-set-lt, drop-set-add, take-set-lt, getD-take, getD-drop, drop-drop, getD-set-same, getD-set-other}
 use lib.Ieee.{Float, nan, binary64, add, sub, mul}
 use Rattle.gram_schmidt.specs.Orthonormalise.{subtract-projection, orthogonalise}
-use Rattle.floats.specs.Arithmetic.{zero⁺}
-use Rattle.floats.specs.Vector.{dot-from, part, chunks}
+use Rattle.floats.specs.Arithmetic.{_⊖_, _⊗_, zero⁺}
+use Rattle.floats.specs.Vector.{updated, dot-from, part, chunks}
 use Rattle.floats.proofs.Sets.{part-length, part-cons, part-set, part-sets, sets-over, sets-own}
+use Rattle.floats.proofs.Updated.{updated-cons, updated-length}
 use Rattle.floats.proofs.Vector.{chunks-sets}
 
 -- ---- a direction less a multiple of another one
-
-pub subtract-length : (p : Float) (v b : List Float) → length (subtract-projection p v b) ≡ length v
-unfolding subtract-projection
-subtract-length p [] b = refl
-subtract-length p (x ∷ v) [] = refl
-subtract-length p (x ∷ v) (y ∷ b) = ap suc (subtract-length p v b)
 
 -- the entry that turn i writes
 abbrev pub entry : Float → ℕ → ℕ → List Float → ℕ → Float
@@ -28,30 +23,27 @@ entry p b t xs i = sub binary64 (getD xs (t + i) nan) (mul binary64 p (getD xs (
 
 -- the entries from turn i on
 abbrev rest : Float → ℕ → ℕ → ℕ → List Float → ℕ → List Float
-rest p b t d xs i = subtract-projection p (part (t + i) (d - i) xs) (part (b + i) (d - i) xs)
+rest p b t d xs i = subtract-projection p (drop i (part t d xs)) (drop i (part b d xs))
 
 abbrev pub subtracting : Float → ℕ → ℕ → ℕ → List Float → ℕ → List Float
 subtracting p b t d xs i = sets xs (t + i) (rest p b t d xs i)
 
 pub subtract-next : (p : Float) (b t d : ℕ) (xs : List Float) (i : ℕ) → i < d → b + d ≤ t → t + d ≤ length xs
     → subtracting p b t d xs i ≡ subtracting p b t d (set xs (t + i) (entry p b t xs i)) (i + 1)
-unfolding subtract-projection
 subtract-next p b t d xs i h g k =
     let z = entry p b t xs i in
-    let m = d - (i + 1) in
-    let e₁ : d - i ≡ suc m = omega arith in
-    let e₂ : t + (i + 1) ≡ suc (t + i) = omega arith in
-    let e₃ : b + (i + 1) ≡ suc (b + i) = omega arith in
-    rw (e₁, e₂, e₃, part-cons (t + i) m xs (omega arith), part-cons (b + i) m xs (omega arith), drop-set-lt (suc (t + i)) xs (t + i) z (omega arith), part-set (suc (b + i)) m xs (t + i) z (omega arith))
+    let n : length (part t d xs) ≡ d = part-length t d xs k in
+    let m : length (part b d xs) ≡ d = part-length b d xs (omega arith) in
+    let e : t + (i + 1) ≡ suc (t + i) = omega arith in
+    rw (part-set b d xs (t + i) z (omega arith), drop-set-add t xs i z, take-set-lt d (drop t xs) i z h, drop-set-lt (i + 1) (part t d xs) i z (omega arith), updated-cons (λ x y. x ⊖ p ⊗ y) (part t d xs) (part b d xs) i nan nan (omega arith) (omega arith))
+    (rw (getD-take d (drop t xs) i nan h, getD-take d (drop b xs) i nan h, getD-drop t xs i nan, getD-drop b xs i nan, e) refl)
 
-pub subtract-end : (p : Float) (b t d : ℕ) (xs : List Float) (i : ℕ) → d ≤ i → subtracting p b t d xs i ≡ xs
-unfolding subtract-projection
-subtract-end p b t d xs i h =
-    let e : d - i ≡ 0 = omega arith in
-    rw e
+pub subtract-end : (p : Float) (b t d : ℕ) (xs : List Float) (i : ℕ) → d ≤ i → t + d ≤ length xs → subtracting p b t d xs i ≡ xs
+unfolding updated
+subtract-end p b t d xs i h g = let n : length (part t d xs) ≡ d = part-length t d xs g in rw (drop-of-length-le (part t d xs) {i = i} (omega arith))
 
 pub subtract-start : (p : Float) (b t d : ℕ) (xs : List Float) → subtracting p b t d xs 0 ≡ sets xs t (subtract-projection p (part t d xs) (part b d xs))
-subtract-start p b t d xs = simp (add-zero, sub-zero)
+subtract-start p b t d xs = rw add-zero
 
 -- ---- the product that is summed beside it, over the list as the loop leaves it
 
@@ -90,7 +82,7 @@ sum-start n t d zs s = simp (add-zero, sub-zero)
 pub orthogonalise-length : (z : Float) (bs : List (List Float)) (v : List Float) → length (orthogonalise z bs v) ≡ length v
 unfolding orthogonalise
 orthogonalise-length z [] v = refl
-orthogonalise-length z (b ∷ bs) v = orthogonalise-length z bs (subtract-projection (dot-from z b v) v b) ∙ subtract-length (dot-from z b v) v b
+orthogonalise-length z (b ∷ bs) v = orthogonalise-length z bs (subtract-projection (dot-from z b v) v b) ∙ updated-length _ v b
 
 abbrev pub orthogonalising : ℕ → ℕ → List Float → ℕ → List Float
 orthogonalising d v xs p = sets xs (v * d) (orthogonalise zero⁺ (chunks d (v - p) (drop (p * d) xs)) (part (v * d) d xs))
@@ -111,7 +103,7 @@ orthogonalise-next d v xs p h g =
     let e₂ : (p + 1) * d ≡ p * d + d = rw (add-one, suc-mul) in
     let e₃ : v ≡ suc p + m = omega arith in
     let e₄ : v * d ≡ p * d + d + m * d = ap (λ (n : ℕ). n * d) e₃ ∙ rw (add-mul, suc-mul) in
-    let e₅ : length w ≡ d = subtract-length _ _ _ ∙ part-length (v * d) d xs g in
+    let e₅ : length w ≡ d = updated-length _ _ _ ∙ part-length (v * d) d xs g in
     let e₆ : length w ≡ length (orthogonalise zero⁺ (chunks d m (drop (p * d + d) xs)) w) = sym (orthogonalise-length zero⁺ (chunks d m (drop (p * d + d) xs)) w) in
     rw (e₁, e₂, part-sets xs (v * d) w d e₅ g, chunks-sets d m (p * d + d) xs (v * d) w (omega arith), drop-drop d (p * d) xs)
     (sym (sets-over xs (v * d) w (orthogonalise zero⁺ (chunks d m (drop (p * d + d) xs)) w) e₆ (omega arith)))

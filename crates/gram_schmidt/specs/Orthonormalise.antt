@@ -6,13 +6,11 @@ use mathlib.Core.Option.{Option, none, some, Option·map}
 use lib.Ieee.{Float, le}
 use lib.Ieee.Scale.{finite}
 use Rattle.floats.specs.Arithmetic.{_⊖_, _⊗_, _⊘_, least-normal}
-use Rattle.floats.specs.Vector.{dot-from}
+use Rattle.floats.specs.Vector.{dot-from, updated}
 
 -- v less p times b, entry by entry (source: subtract_projection)
-unfoldable pub subtract-projection : Float → List Float → List Float → List Float
-subtract-projection p [] b = []
-subtract-projection p (x ∷ v) [] = x ∷ v
-subtract-projection p (x ∷ v) (y ∷ b) = x ⊖ p ⊗ y ∷ subtract-projection p v b
+abbrev pub subtract-projection : Float → List Float → List Float → List Float
+subtract-projection p v b = updated (λ x y. x ⊖ p ⊗ y) v b
 
 -- v cleared of each direction of bs in turn: take the dot product, from z, and subtract product * entry
 unfoldable pub orthogonalise : Float → List (List Float) → List Float → List Float
@@ -47,7 +45,7 @@ with-direction false w ws u l q r =
 
 -- the directions vs in order, behind those that are finished already: cleared twice, then divided by their length
 unfoldable pub orthonormalise : Lengths → List (List Float) → List (List Float) → Basis
-unfolding dot-from subtract-projection collapsed orthogonalise with-direction
+unfolding dot-from updated collapsed orthogonalise with-direction
 orthonormalise L done [] = record { directions = []; logs = []; reports = []; collapse = none }
 orthonormalise L done (v ∷ vs) =
     let w = orthogonalise (L .start) done (orthogonalise (L .start) done v) in

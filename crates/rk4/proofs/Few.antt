@@ -1,56 +1,32 @@
 -- Only the first entries of an array count: in a stage point, in the update, and in the fields and tangent maps.
-use Prim.Native.Nat.{ℕ, zero, suc, _-_, _≤_}
+use Prim.Native.Nat.{ℕ, _-_, _≤_}
 use native.Mathlib.Omega.{arith}
-use mathlib.Core.Path.{_≡_, refl, sym, ap, _∙_}
-use mathlib.Core.List.{List, [], _∷_, _++_, map}
+use mathlib.Core.Path.{_≡_, refl, sym, _∙_}
+use mathlib.Core.List.{List, [], _∷_, _++_}
 use lib.ListN.{length, take, drop, replicate}
 use lib.Seq.{take-append-le, take-take, getD-take, length-take-le}
 use lib.Ieee.{Float, nan}
 use Rattle.floats.specs.Arithmetic.{_⊕_, _⊗_, _⊘_, zero⁺, two, six}
+use Rattle.floats.proofs.Updated.{map-take, zip-take, updated-front, updated-few}
 use Rattle.system.specs.System.{dim, field, tangent}
 use Rattle.system.specs.Array.{in16}
 use Rattle.system.specs.declared.System.{System}
 use Rattle.system.specs.declared.System.the-variants.{Lorenz, Rossler, VanDerPol, Linear}
-use Rattle.rk4.specs.Stepper.{combine-stage, zip, sum₂, rk4-update}
+use Rattle.rk4.specs.Stepper.{combine-stage, sum₂, rk4-update}
 use Rattle.rk4.proofs.Padding.{in16-take}
 use Rattle.rk4.proofs.Times.{times-length, times-few}
 use Rattle.rk4.proofs.Stage.{double, front-length, update-length}
 
 -- ---- a stage point
 
-combine-take : (n : ℕ) (s : Float) (v k : List Float) → take n (combine-stage s v k) ≡ combine-stage s (take n v) (take n k)
-unfolding combine-stage
-combine-take zero s v k = refl
-combine-take (suc n) s [] k = refl
-combine-take (suc n) s (x ∷ v) [] = refl
-combine-take (suc n) s (x ∷ v) (y ∷ k) = ap (λ (l : List Float). x ⊕ s ⊗ y ∷ l) (combine-take n s v k)
-
-combine-few : (s : Float) (v k : List Float) → combine-stage s v k ≡ combine-stage s v (take (length v) k)
-unfolding combine-stage
-combine-few s [] k = refl
-combine-few s (x ∷ v) [] = refl
-combine-few s (x ∷ v) (y ∷ k) = ap (λ (l : List Float). x ⊕ s ⊗ y ∷ l) (combine-few s v k)
-
 -- d of the w entries that the code computes
 pub combine-front : (s : Float) (b k p : List Float) (d w : ℕ) → d ≤ w → w ≤ length b → p ≡ in16 (combine-stage s (take w b) (take w k)) → take d p ≡ combine-stage s (take d b) (take d k)
 combine-front s b k p d w h g f =
     let L = combine-stage s (take w b) (take w k) in
     let n : length L ≡ w = front-length s b k w g in
-    rw (f, take-append-le d L (replicate (16 - length L) zero⁺) (omega arith), combine-take d s (take w b) (take w k), take-take d w b h, take-take d w k h)
+    rw (f, take-append-le d L (replicate (16 - length L) zero⁺) (omega arith), updated-front _ d (take w b) (take w k), take-take d w b h, take-take d w k h)
 
 -- ---- the update
-
-zip-take : (f : Float → Float → Float) (n : ℕ) (k l : List Float) → take n (zip f k l) ≡ zip f (take n k) (take n l)
-unfolding zip
-zip-take f zero k l = refl
-zip-take f (suc n) [] l = refl
-zip-take f (suc n) (x ∷ k) [] = refl
-zip-take f (suc n) (x ∷ k) (y ∷ l) = ap (λ (m : List Float). f x y ∷ m) (zip-take f n k l)
-
-map-take : (f : Float → Float) (n : ℕ) (k : List Float) → take n (map f k) ≡ map f (take n k)
-map-take f zero k = refl
-map-take f (suc n) [] = refl
-map-take f (suc n) (x ∷ k) = ap (λ (m : List Float). f x ∷ m) (map-take f n k)
 
 pub update-few : (h : Float) (k₁ k₂ k₃ k₄ v : List Float) (n : ℕ) → length v ≡ n
     → rk4-update h (k₄ ∷ k₃ ∷ k₂ ∷ k₁ ∷ []) v ≡ rk4-update h (take n k₄ ∷ take n k₃ ∷ take n k₂ ∷ take n k₁ ∷ []) v
@@ -58,14 +34,14 @@ unfolding rk4-update
 update-few h k₁ k₂ k₃ k₄ v n e =
     let s₂ = sum₂ k₁ (double k₂) in
     let s₃ = sum₂ s₂ (double k₃) in
-    combine-few (h ⊘ six) v (sum₂ s₃ k₄)
+    updated-few _ v (sum₂ s₃ k₄)
     ∙ rw (
       e,
-      zip-take (_⊕_) n s₃ k₄,
-      zip-take (_⊕_) n s₂ (double k₃),
-      zip-take (_⊕_) n k₁ (double k₂),
-      map-take (λ x. two ⊗ x) n k₂,
-      map-take (λ x. two ⊗ x) n k₃,
+      ← zip-take (_⊕_) n s₃ k₄,
+      ← zip-take (_⊕_) n s₂ (double k₃),
+      ← zip-take (_⊕_) n k₁ (double k₂),
+      ← map-take (λ x. two ⊗ x) n k₂,
+      ← map-take (λ x. two ⊗ x) n k₃,
     )
 
 -- the front of what is updated: the whole, or a part of w entries
@@ -73,7 +49,7 @@ pub update-front : (h : Float) (k₁ k₂ k₃ k₄ v ys : List Float) (n : ℕ)
 unfolding rk4-update
 update-front h k₁ k₂ k₃ k₄ v ys n e u =
     let k = sum₂ (sum₂ (sum₂ k₁ (double k₂)) (double k₃)) k₄ in
-    rw u (combine-take n (h ⊘ six) v k ∙ sym (rw (length-take-le n v e) at (combine-few (h ⊘ six) (take n v) k)))
+    rw u (updated-front _ n v k ∙ sym (rw (length-take-le n v e) at (updated-few (λ x y. x ⊕ h ⊘ six ⊗ y) (take n v) k)))
 
 pub part-front : (h : Float) (k₁ k₂ k₃ k₄ v ys : List Float) (n w : ℕ) → n ≤ w → w ≤ length v → ys ≡ rk4-update h (k₄ ∷ k₃ ∷ k₂ ∷ k₁ ∷ []) (take w v)
     → take n (ys ++ drop w v) ≡ rk4-update h (k₄ ∷ k₃ ∷ k₂ ∷ k₁ ∷ []) (take n v)

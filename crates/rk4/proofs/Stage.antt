@@ -1,62 +1,30 @@
 -- A stage point and the update, entry by entry, and their lengths.
-use Prim.Native.Nat.{ℕ, zero, suc, _≤_, _<_}
-use native.Mathlib.Nat.{not-suc-le-zero, le-of-suc-le-suc}
+use Prim.Native.Nat.{ℕ, _≤_, _<_}
 use native.Mathlib.Omega.{arith}
-use mathlib.Core.Path.{_≡_, refl, sym, ap, _∙_}
+use mathlib.Core.Path.{_≡_, sym, _∙_}
 use mathlib.Core.List.{List, [], _∷_, _++_, map}
 use lib.ListN.{length, take, drop, getD, length-map}
 use lib.Seq.{length-take-le, getD-take}
 use lib.Ieee.{Float, nan}
 use Rattle.floats.specs.Arithmetic.{_⊕_, _⊗_, _⊘_, two, six}
 use Rattle.floats.proofs.Fill.{fill-seen}
-use Rattle.rk4.specs.Stepper.{combine-stage, zip, sum₂, rk4-update}
+use Rattle.floats.proofs.Updated.{map-at, zip-at, zip-length, updated-length, updated-at}
+use Rattle.rk4.specs.Stepper.{combine-stage, sum₂, rk4-update}
 
 -- ---- v with s * k added
 
-pub combine-length : (s : Float) (v k : List Float) → length (combine-stage s v k) ≡ length v
-unfolding combine-stage
-combine-length s [] k = refl
-combine-length s (x ∷ v) [] = refl
-combine-length s (x ∷ v) (y ∷ k) = ap suc (combine-length s v k)
-
-combine-at : (s : Float) (v k : List Float) (i : ℕ) → i < length v → i < length k → getD (combine-stage s v k) i nan ≡ getD v i nan ⊕ s ⊗ getD k i nan
-unfolding combine-stage
-combine-at s [] k i h g = absurd (not-suc-le-zero h)
-combine-at s (x ∷ v) [] i h g = absurd (not-suc-le-zero g)
-combine-at s (x ∷ v) (y ∷ k) zero h g = refl
-combine-at s (x ∷ v) (y ∷ k) (suc i) h g = combine-at s v k i (le-of-suc-le-suc h) (le-of-suc-le-suc g)
-
--- the same of the first d entries of two arrays
+-- of the first d entries of two arrays
 module _ (s : Float) (b k : List Float) (d : ℕ) (h : d ≤ length b) where
   pub front-length : length (combine-stage s (take d b) (take d k)) ≡ d
-  front-length = combine-length s (take d b) (take d k) ∙ length-take-le d b h
+  front-length = updated-length _ (take d b) (take d k) ∙ length-take-le d b h
 
   pub front-at : (i : ℕ) → d ≤ length k → i < d → getD b i nan ⊕ s ⊗ getD k i nan ≡ getD (combine-stage s (take d b) (take d k)) i nan
   front-at i g f =
       let m : length (take d b) ≡ d = length-take-le d b h in
       let n : length (take d k) ≡ d = length-take-le d k g in
-      sym (combine-at s (take d b) (take d k) i (omega arith) (omega arith) ∙ rw (getD-take d b i nan f, getD-take d k i nan f))
+      sym (updated-at _ (take d b) (take d k) i nan nan (omega arith) (omega arith) ∙ rw (getD-take d b i nan f, getD-take d k i nan f))
 
 -- ---- the update
-
-map-at : (f : Float → Float) (l : List Float) (i : ℕ) → i < length l → getD (map f l) i nan ≡ f (getD l i nan)
-map-at f [] i h = absurd (not-suc-le-zero h)
-map-at f (x ∷ l) zero h = refl
-map-at f (x ∷ l) (suc i) h = map-at f l i (le-of-suc-le-suc h)
-
-zip-at : (f : Float → Float → Float) (k l : List Float) (i : ℕ) → i < length k → i < length l → getD (zip f k l) i nan ≡ f (getD k i nan) (getD l i nan)
-unfolding zip
-zip-at f [] l i h g = absurd (not-suc-le-zero h)
-zip-at f (x ∷ k) [] i h g = absurd (not-suc-le-zero g)
-zip-at f (x ∷ k) (y ∷ l) zero h g = refl
-zip-at f (x ∷ k) (y ∷ l) (suc i) h g = zip-at f k l i (le-of-suc-le-suc h) (le-of-suc-le-suc g)
-
-zip-length : (f : Float → Float → Float) (k l : List Float) (n : ℕ) → length k ≡ n → length l ≡ n → length (zip f k l) ≡ n
-unfolding zip
-zip-length f [] l n h g = h
-zip-length f (x ∷ k) [] n h g = g
-zip-length f (x ∷ k) (y ∷ l) zero h g = omega arith
-zip-length f (x ∷ k) (y ∷ l) (suc n) h g = ap suc (zip-length f k l n (omega arith) (omega arith))
 
 -- 2 * k, entry by entry
 abbrev pub double : List Float → List Float
@@ -65,7 +33,7 @@ double k = map (λ x. two ⊗ x) k
 module _ (h : Float) (k₁ k₂ k₃ k₄ v : List Float) where
   pub update-length : length (rk4-update h (k₄ ∷ k₃ ∷ k₂ ∷ k₁ ∷ []) v) ≡ length v
   unfolding rk4-update
-  update-length = combine-length (h ⊘ six) v _
+  update-length = updated-length _ v _
 
   update-at : (n i : ℕ) → length k₁ ≡ n → length k₂ ≡ n → length k₃ ≡ n → length k₄ ≡ n → i < n → i < length v
       → getD (rk4-update h (k₄ ∷ k₃ ∷ k₂ ∷ k₁ ∷ []) v) i nan
@@ -80,19 +48,19 @@ module _ (h : Float) (k₁ k₂ k₃ k₄ v : List Float) where
       let z₃ = zip-length (_⊕_) s₂ (double k₃) n z₂ m₃ in
       let z₄ = zip-length (_⊕_) s₃ k₄ n z₃ h₄ in
       rw (
-        combine-at (h ⊘ six) v (sum₂ s₃ k₄) i w (omega arith),
-        zip-at (_⊕_) s₃ k₄ i (omega arith) (omega arith),
-        zip-at (_⊕_) s₂ (double k₃) i (omega arith) (omega arith),
-        zip-at (_⊕_) k₁ (double k₂) i (omega arith) (omega arith),
-        map-at (λ x. two ⊗ x) k₂ i (omega arith),
-        map-at (λ x. two ⊗ x) k₃ i (omega arith),
+        updated-at _ v (sum₂ s₃ k₄) i nan nan w (omega arith),
+        zip-at (_⊕_) s₃ k₄ i nan nan nan (omega arith) (omega arith),
+        zip-at (_⊕_) s₂ (double k₃) i nan nan nan (omega arith) (omega arith),
+        zip-at (_⊕_) k₁ (double k₂) i nan nan nan (omega arith) (omega arith),
+        map-at (λ x. two ⊗ x) k₂ i nan nan (omega arith),
+        map-at (λ x. two ⊗ x) k₃ i nan nan (omega arith),
       )
 
   -- what the loop writes at i, where X is under way
-  pub updated : (X : List Float) (i : ℕ) → X ≡ take i (rk4-update h (k₄ ∷ k₃ ∷ k₂ ∷ k₁ ∷ []) v) ++ drop i v
+  pub update-entry : (X : List Float) (i : ℕ) → X ≡ take i (rk4-update h (k₄ ∷ k₃ ∷ k₂ ∷ k₁ ∷ []) v) ++ drop i v
       → length k₁ ≡ 16 → length k₂ ≡ 16 → length k₃ ≡ 16 → length k₄ ≡ 16 → i < 16 → i < length v
       → getD X i nan ⊕ h ⊘ six ⊗ (getD k₁ i nan ⊕ two ⊗ getD k₂ i nan ⊕ two ⊗ getD k₃ i nan ⊕ getD k₄ i nan)
       ≡ getD (rk4-update h (k₄ ∷ k₃ ∷ k₂ ∷ k₁ ∷ []) v) i nan
-  updated X i e h₁ h₂ h₃ h₄ g w =
+  update-entry X i e h₁ h₂ h₃ h₄ g w =
       let n = update-length in
       rw (fill-seen (rk4-update h (k₄ ∷ k₃ ∷ k₂ ∷ k₁ ∷ []) v) v X i e (omega arith) w) (sym (update-at 16 i h₁ h₂ h₃ h₄ g w))

@@ -8,6 +8,7 @@ use lib.ListN.{length, take, getD}
 use lib.Ieee.{Float, nan}
 use Rattle.floats.specs.Arithmetic.{_⊗_, half}
 use Rattle.floats.specs.Finite.{first-not-finite}
+use Rattle.floats.specs.Vector.{updated}
 use Rattle.system.specs.System.{dim, tangent}
 use Rattle.system.specs.declared.System.{System}
 use Rattle.system.specs.declared.System.the-variants.{Lorenz, Rossler, VanDerPol, Linear}
@@ -30,7 +31,7 @@ NotLinear (Linear d) = ⊥
 
 -- the classical step of v, where the derivative map of each of the four stages is given
 unfoldable pub moved : Float → (List Float → List Float) → (List Float → List Float) → (List Float → List Float) → (List Float → List Float) → List Float → List Float
-unfolding combine-stage rk4-update
+unfolding updated rk4-update
 moved h f₁ f₂ f₃ f₄ v =
     let k₁ = f₁ v in
     let k₂ = f₂ (combine-stage (half ⊗ h) v k₁) in

@@ -2,18 +2,11 @@
 use mathlib.Core.List.{List, [], _∷_, map}
 use lib.Ieee.{Float}
 use Rattle.floats.specs.Arithmetic.{_⊕_, _⊗_, _⊘_, two, half, six}
+use Rattle.floats.specs.Vector.{zip, updated}
 
 -- v with s times k added to it, entry by entry (source: combine_stage)
-unfoldable pub combine-stage : Float → List Float → List Float → List Float
-combine-stage s [] k = []
-combine-stage s (x ∷ v) [] = x ∷ v
-combine-stage s (x ∷ v) (y ∷ k) = x ⊕ s ⊗ y ∷ combine-stage s v k
-
--- entry by entry, as far as both go
-unfoldable pub zip {a b c} : {A : Type a} {B : Type b} {C : Type c} → (A → B → C) → List A → List B → List C
-zip f [] ys = []
-zip f (x ∷ xs) [] = []
-zip f (x ∷ xs) (y ∷ ys) = f x y ∷ zip f xs ys
+abbrev pub combine-stage : Float → List Float → List Float → List Float
+combine-stage s v k = updated (λ x y. x ⊕ s ⊗ y) v k
 
 -- The point of each stage, and the update: from the derivatives of the stages before, the last of them first, and the base.
 pub record Method : Type 0 where
@@ -42,7 +35,7 @@ advance-by M f g x =
 
 -- base + scale * the last derivative
 unfoldable pub from-last : Float → List (List Float) → List Float → List Float
-unfolding combine-stage
+unfolding updated
 from-last s [] v = v
 from-last s (k ∷ ks) v = combine-stage s v k
 
@@ -51,7 +44,7 @@ sum₂ k l = zip (_⊕_) k l
 
 -- value + (h / 6) * (k1 + 2 * k2 + 2 * k3 + k4)
 unfoldable pub rk4-update : Float → List (List Float) → List Float → List Float
-unfolding combine-stage zip
+unfolding updated zip
 rk4-update h [] v = v
 rk4-update h (k₄ ∷ []) v = v
 rk4-update h (k₄ ∷ k₃ ∷ []) v = v

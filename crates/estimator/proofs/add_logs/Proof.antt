@@ -7,8 +7,9 @@ use mathlib.Core.List.{_++_}
 use lib.ListN.{length, take, drop, length-set}
 use lib.Ieee.{nan}
 use Rattle.floats.specs.Arithmetic.{_⊕_}
-use Rattle.estimator.specs.Progress.{updated, with-sums}
-use Rattle.estimator.proofs.Lists.{updated-next, updated-end}
+use Rattle.floats.specs.Vector.{updated}
+use Rattle.floats.proofs.Updated.{updated-next, updated-end}
+use Rattle.estimator.specs.Progress.{with-sums}
 use Rattle.estimator.proofs.add_logs.Statement.{statement}
 use Rattle.estimator.proofs.add_logs.Tie as tie
 

@@ -7,8 +7,10 @@ use mathlib.Core.Logic.{⊎-elim}
 use mathlib.Core.List.{_++_}
 use lib.ListN.{length, take, drop, getD}
 use lib.Ieee.{nanBits, ofBits}
-use Rattle.estimator.specs.Progress.{updated, counted, with-faint}
-use Rattle.estimator.proofs.Lists.{updated-end, counted-yes, counted-no}
+use Rattle.floats.specs.Vector.{updated}
+use Rattle.floats.proofs.Updated.{updated-end}
+use Rattle.estimator.specs.Progress.{counted, with-faint}
+use Rattle.estimator.proofs.Lists.{counted-yes, counted-no}
 use Rattle.estimator.proofs.count_faint.Statement.{statement}
 use Rattle.estimator.proofs.count_faint.Tie as tie
 

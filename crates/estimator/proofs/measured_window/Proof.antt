@@ -6,12 +6,12 @@ use mathlib.Core.Path.{_≡_, sym, ap, _∙_}
 use lib.ListN.{length, take}
 use lib.Seq.{length-take-le}
 use Rattle.floats.specs.Arithmetic.{_⊕_}
+use Rattle.floats.proofs.Updated.{updated-length}
 use Rattle.system.specs.System.{dim}
 use Rattle.benettin.specs.Run as Run
 use Rattle.benettin.specs.Run.{Dynamics, RunState, Status}
 use Rattle.estimator.specs.Progress.{dynamics-of, run-state}
 use Rattle.estimator.specs.declared.Progress.{Progress}
-use Rattle.estimator.proofs.Lists.{updated-length}
 use Rattle.estimator.proofs.Loops.{room-less, turn-stop, measured-done, within-added, within-more}
 use Rattle.estimator.proofs.measured_window.Statement.{statement}
 use Rattle.estimator.proofs.measured_window.Tie as tie

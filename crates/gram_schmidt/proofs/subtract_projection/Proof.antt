@@ -85,7 +85,7 @@ returns : tie.Need-returns Inv-loop μ-loop
 returns c =
     let l = c .before .loop in
     let ar = c .before .before .args in
-    let done : subtracting (ar .p) (ar .basis) (ar .target) (ar .d) (ar .values .now) 0 ≡ l .values = l .inv .2 ∙ subtract-end (ar .p) (ar .basis) (ar .target) (ar .d) (l .values) (l .i) (omega arith) in (
+    let done : subtracting (ar .p) (ar .basis) (ar .target) (ar .d) (ar .values .now) 0 ≡ l .values = l .inv .2 ∙ subtract-end (ar .p) (ar .basis) (ar .target) (ar .d) (l .values) (l .i) (omega arith) (omega arith) in (
       sym done ∙ subtract-start (ar .p) (ar .basis) (ar .target) (ar .d) _,
       sym (sum-end (ar .next) (ar .target) (ar .d) _ (l .product) (l .i) (omega arith)) ∙ sym (l .inv .3) ∙ sum-start (ar .next) (ar .target) (ar .d) _ zero⁺ ∙ ap (λ zs. dot-from zero⁺ (part (ar .next) (ar .d) zs) (part (ar .target) (ar .d) zs)) done,
     )

@@ -9,7 +9,7 @@ use lib.Seq.{drop-length}
 use lib.Ieee.{ofBits}
 use Rattle.floats.proofs.Fill.{fill-step, whole}
 use Rattle.rk4.specs.Stepper.{rk4-update}
-use Rattle.rk4.proofs.Stage.{update-length, updated}
+use Rattle.rk4.proofs.Stage.{update-length, update-entry}
 use Rattle.rk4.proofs.rk4_update.Statement.{statement}
 use Rattle.rk4.proofs.rk4_update.Tie as tie
 
@@ -78,7 +78,7 @@ loop-again c =
     let e₄ : length (ar .t5) ≡ 16 = search needs in (
       omega arith,
       simp length-set (l .inv .1),
-      fill-step L v (l .values) (l .i) _ (l .inv .2) (updated (ar .h) (ar .t2) (ar .t3) (ar .t4) (ar .t5) v (l .values) (l .i) (l .inv .2) e₁ e₂ e₃ e₄ (omega arith) (omega arith)) (omega arith) (omega arith),
+      fill-step L v (l .values) (l .i) _ (l .inv .2) (update-entry (ar .h) (ar .t2) (ar .t3) (ar .t4) (ar .t5) v (l .values) (l .i) (l .inv .2) e₁ e₂ e₃ e₄ (omega arith) (omega arith)) (omega arith) (omega arith),
     )
 
 same-length : tie.Need-same-length Inv-loop μ-loop
