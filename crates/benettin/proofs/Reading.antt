@@ -1,14 +1,15 @@
 -- What a call leaves, read back by window and direction, is the answer of the run.
-use Prim.Native.Nat.{ℕ, zero, suc, _+_, _-_, _*_, _≤_}
+use Prim.Native.Nat.{ℕ, zero, suc, _+_, _-_, _*_, _≤_, _<_}
 use native.Mathlib.Nat.{sub-zero, suc-mul, mul-le-mul-right, le-trans}
 use native.Mathlib.Omega.{arith}
 use mathlib.Core.Path.{_≡_, refl, sym, ap, ap₂, _∙_, subst}
 use mathlib.Core.List.{List, [], _∷_, _++_, append-assoc}
+use mathlib.Core.Bool.{Bool, true, false, cond}
 use mathlib.Core.Option.{Option, none, some}
 use lib.ListN.{length, take, drop, getD, replicate, length-append, length-map}
 use lib.Seq.{sets, take-at, drop-at, drop-drop, getD-at}
 use lib.Ieee.{Float, nan}
-use Rattle.error.specs.Tests.{first-failing}
+use Rattle.error.specs.Tests.{Test, first-failing}
 use Rattle.error.specs.declared.Refusal.{Refusal}
 use Rattle.system.specs.System.{dim}
 use Rattle.rk4.proofs.Lengths.{state-length}
@@ -38,6 +39,7 @@ pub record StoppedFits (K : ℕ) (o : OutputLengths) (rs : List Row) (r : RunRef
   pub many : length rs ≡ r .finished
   pub rows-room : length rs * (1 + 2 * K) ≤ o .rows
   pub faint : f ≡ no-faint K
+  pub numbered : 0 < r .number
 
 abbrev pub Fits : ℕ → ℕ → ℕ → OutputLengths → RunAnswer → Type 0
 Fits d K w o (ended rs x) = EndedFits d K w o rs x
@@ -62,7 +64,21 @@ answer-fits M d K w o t R hr he hs = go (t .end) (R .end)
           state = p .0 .state;
           state-room = hs;
         }
-    go (refused r) p = record { wide = R .wide; many = omega (arith, p); rows-room = room; faint = refl }
+    go (refused r) p = record { wide = R .wide; many = omega (arith, p .0); rows-room = room; faint = refl; numbered = p .1 }
+
+-- no test refuses by 0
+abbrev Numbered : List Test → Type 0
+Numbered [] = Unit {0}
+Numbered (t ∷ ts) = (0 < t .refusal .number) × Numbered ts
+
+numbered-first : (ts : List Test) → Numbered ts → (r : Refusal) → some r ≡ first-failing ts → 0 < r .number
+unfolding first-failing
+numbered-first [] h r e = let z : _≡_ {A = ℕ} 0 1 = cc in absurd (omega arith)
+numbered-first (t ∷ ts) h r e = go (t .passes) (numbered-first ts (h .1) r) e
+  where
+    go : (b : Bool) → (some r ≡ first-failing ts → 0 < r .number) → some r ≡ cond b (first-failing ts) (some (t .refusal)) → 0 < r .number
+    go true f e = f e
+    go false f e = let z : r ≡ t .refusal = cc in rw z (h .0)
 
 problem-keeps : (i : Input) → KeepsState (problem i .dynamics)
 unfolding problem dynamics
@@ -76,9 +92,13 @@ module _ (i : Input) (K : ℕ) (o : OutputLengths) where
       subst (λ (d : ℕ). Fits d K (i .windows) o (run-past none (problem i) K)) (sym (g .0 .state))
       (answer-fits (problem i .dynamics) (length (i .state)) K (i .windows) o (course-of (problem i) K) (course-rows (problem i) K (problem-keeps i)) (g .1) (g .2) (g .3))
 
+  numbered-tests : Numbered (run-tests (problem i) K o)
+  unfolding run-tests problem
+  numbered-tests = omega arith
+
   past-fits : (r : Option Refusal) → r ≡ first-failing (run-tests (problem i) K o) → Fits (dim (i .system)) K (i .windows) o (run-past r (problem i) K)
   unfolding run-past
-  past-fits (some r) e = record { wide = tt; many = refl; rows-room = omega arith; faint = refl }
+  past-fits (some r) e = record { wide = tt; many = refl; rows-room = omega arith; faint = refl; numbered = numbered-first (run-tests (problem i) K o) numbered-tests r e }
   past-fits none e = run-fits e
 
   pub estimate-fits : Fits (dim (i .system)) K (i .windows) o (estimate i K o)
@@ -155,3 +175,17 @@ read-back d K w rows es fs (stopped rs r f) h =
 pub reads : (i : Input) (K : ℕ) (c : Call) → Meets i K c → read (dim (i .system)) K (c .after) ≡ estimate i K (lent c)
 unfolding estimated
 reads i K c m = ap (read (dim (i .system)) K) m ∙ read-back (dim (i .system)) K (i .windows) (c .rows) (c .exponents) (c .final-state) (estimate i K (lent c)) (estimate-fits i K (lent c))
+
+-- what is refused has a number that is not 0
+abbrev pub NotZero : Option Refusal → Type 0
+NotZero none = Unit {0}
+NotZero (some r) = 0 < r .number
+
+outputs-number : (d K w : ℕ) (rows es fs : List Float) (a : RunAnswer) → Fits d K w (lengths-of rows es fs) a → NotZero (outputs w rows es fs a .refusal)
+unfolding outputs
+outputs-number d K w rows es fs (ended rs x) h = tt
+outputs-number d K w rows es fs (stopped rs r f) h = h .numbered
+
+pub estimated-number : (i : Input) (K : ℕ) (rows es fs : List Float) → NotZero (estimated i K rows es fs .refusal)
+unfolding estimated
+estimated-number i K rows es fs = outputs-number (dim (i .system)) K (i .windows) rows es fs (estimate i K (lengths-of rows es fs)) (estimate-fits i K (lengths-of rows es fs))

@@ -1,7 +1,7 @@
 -- How many of everything a run under way has: K directions, sums and faint counts, d entries of state, and a row of K locals and K runnings for each finished window.
-use Prim.Native.Nat.{ℕ, zero, suc, _+_, _≤_}
+use Prim.Native.Nat.{ℕ, zero, suc, _+_, _≤_, _<_}
 use native.Mathlib.Omega.{arith}
-use mathlib.Core.Path.{_≡_, refl, sym, ap, _∙_}
+use mathlib.Core.Path.{_≡_, refl, ap, _∙_}
 use mathlib.Core.Bool.{Bool, true, false, cond}
 use mathlib.Core.List.{List, [], _∷_, _++_, map}
 use mathlib.Core.Option.{Option, none, some, Option·map}
@@ -10,7 +10,8 @@ use lib.Ieee.{Float}
 use lib.Ieee.Scale.{finite}
 use Rattle.floats.specs.Arithmetic.{_⊕_, _⊘_, zero⁺}
 use Rattle.floats.specs.Finite.{first-not-finite}
-use Rattle.floats.specs.Vector.{concat, zip}
+use Rattle.floats.specs.Vector.{concat}
+use Rattle.floats.proofs.Updated.{zip-length}
 use Rattle.gram_schmidt.specs.Orthonormalise.{Lengths, Basis, collapsed, orthogonalise, with-direction, orthonormalise}
 use Rattle.benettin.specs.Run.{Dynamics, Problem, RunState, Status, ok, refused, refused-at, _then_, tested, stepped, step, steps, unless-collapsed, reorthonormalise, faint-or-not, count-faint, window}
 use Rattle.benettin.specs.Run.{warm-up, Course, accumulate, row, with-row, measured, check-duration, warmed-up, measured-from, course, course-of, initial}
@@ -31,10 +32,10 @@ pub record HasLogs (d K n : ℕ) (c : RunState) : Type 0 where
   pub logs : length (c .logs) ≡ K
   pub reports : length (c .reports) ≡ K
 
--- what holds of a run under way, or n windows are finished where it is refused
+-- what holds of a run under way, or n windows are finished where it is refused, by a number that is not 0
 abbrev pub Holds : (RunState → Type 0) → ℕ → Status → Type 0
 Holds R n (ok c) = R c
-Holds R n (refused r) = r .finished ≡ n
+Holds R n (refused r) = (r .finished ≡ n) × (0 < r .number)
 
 then-holds : (Q R : RunState → Type 0) (n : ℕ) (x : Status) (f : RunState → Status) → Holds Q n x → ((c : RunState) → Q c → Holds R n (f c)) → Holds R n (x then f)
 unfolding _then_
@@ -43,9 +44,9 @@ then-holds Q R n (refused r) f q h = q
 
 tested-holds : (R : RunState → Type 0) (p q : Option ℕ) (b : Bool) (n : ℕ) (c e : RunState) → c .finished ≡ n → R e → Holds R n (tested p q b c e)
 unfolding tested
-tested-holds R (some i) q b n c e f h = f
-tested-holds R none (some i) b n c e f h = f
-tested-holds R none none false n c e f h = f
+tested-holds R (some i) q b n c e f h = (f, omega arith)
+tested-holds R none (some i) b n c e f h = (f, omega arith)
+tested-holds R none none false n c e f h = (f, omega arith)
 tested-holds R none none true n c e f h = h
 
 -- ---- as many logarithms and squared lengths as directions, unless one collapsed
@@ -71,12 +72,6 @@ orthonormalise-logged R finished (v ∷ vs) e =
     with-direction-logged (length vs) (collapsed (R .norm w)) w vs u (R .log (R .norm w)) (R .report w) (orthonormalise R (finished ++ (u ∷ [])) vs)
     (orthonormalise-logged R (finished ++ (u ∷ [])) vs) e
 
-zip-many {a b c} : {A : Type a} {B : Type b} {C : Type c} (f : A → B → C) (xs : List A) (ys : List B) → length xs ≡ length ys → length (zip f xs ys) ≡ length xs
-unfolding zip
-zip-many f [] ys e = refl
-zip-many f (x ∷ xs) [] e = sym e
-zip-many f (x ∷ xs) (y ∷ ys) e = ap suc (zip-many f xs ys (omega arith))
-
 -- ---- a window
 
 -- a step keeps the number of entries of the state
@@ -100,7 +95,7 @@ module _ (M : Dynamics) (keeps : KeepsState M) (d K n : ℕ) where
 
   basis-holds : (o : Option ℕ) (c : RunState) (b : Basis) → b .collapse ≡ o → Has d K n c → length (b .directions) ≡ K → Logged K b → Holds (HasLogs d K n) n (unless-collapsed o c b)
   unfolding unless-collapsed
-  basis-holds (some i) c b e h v l = h .finished
+  basis-holds (some i) c b e h v l = (h .finished, omega arith)
   basis-holds none c b e h v l =
       record { has = record { finished = h .finished; state = h .state; directions = v; sums = h .sums; faint = h .faint }; logs = l e .0; reports = l e .1 }
 
@@ -114,7 +109,7 @@ module _ (M : Dynamics) (keeps : KeepsState M) (d K n : ℕ) where
   faint-has : (c : RunState) → HasLogs d K n c → HasLogs d K n (count-faint M c)
   unfolding count-faint
   faint-has c h =
-      let f = zip-many (faint-or-not (M .lengths)) (c .faint) (c .reports) (h .has .faint ∙ sym (h .reports)) ∙ h .has .faint in
+      let f = zip-length (faint-or-not (M .lengths)) (c .faint) (c .reports) K (h .has .faint) (h .reports) in
       record { has = record { finished = h .has .finished; state = h .has .state; directions = h .has .directions; sums = h .has .sums; faint = f }; logs = h .logs; reports = h .reports }
 
   window-has : (s : ℕ) (c : RunState) → Has d K n c → Holds (HasLogs d K n) n (window M s c)
@@ -134,7 +129,7 @@ module _ (M : Dynamics) (keeps : KeepsState M) (d K n : ℕ) where
     where
       go : (b : Bool) → Holds (Has d K n) n (cond b (ok c) (refused (refused-at 15 0 c)))
       go true = h
-      go false = h .finished
+      go false = (h .finished, omega arith)
 
   warmed-up-has : (s w : ℕ) (c : RunState) → Has d K n c → Holds (Has d K n) n (warmed-up M s w c)
   unfolding warmed-up
@@ -153,13 +148,13 @@ pub record Rows (d K n w : ℕ) (t : Course) : Type 0 where
 accumulate-has : (d K n : ℕ) (c : RunState) → HasLogs d K n c → HasLogs d K (suc n) (accumulate c)
 unfolding accumulate
 accumulate-has d K n c h =
-    let s = zip-many (_⊕_) (c .sums) (c .logs) (h .has .sums ∙ sym (h .logs)) ∙ h .has .sums in
+    let s = zip-length (_⊕_) (c .sums) (c .logs) K (h .has .sums) (h .logs) in
     record { has = record { finished = ap suc (h .has .finished); state = h .has .state; directions = h .has .directions; sums = s; faint = h .has .faint }; logs = h .logs; reports = h .reports }
 
 module _ (M : Dynamics) (keeps : KeepsState M) (d K s : ℕ) where
   with-row-rows : (n w : ℕ) (x : Status) (f : RunState → Course) → Holds (HasLogs d K n) n x → ((c : RunState) → Has d K (suc n) c → Rows d K (suc n) w (f c)) → Rows d K n (suc w) (with-row M x f)
   unfolding with-row row
-  with-row-rows n w (refused r) f e h = record { wide = tt; few = omega arith; end = e ∙ omega arith }
+  with-row-rows n w (refused r) f e h = record { wide = tt; few = omega arith; end = (e .0 ∙ omega arith, e .1) }
   with-row-rows n w (ok c) f e h = record { wide = (length-map (accumulate c .logs) _ ∙ g .logs, length-map (accumulate c .sums) _ ∙ g .has .sums, t .wide); few = omega (arith, t .few); end = go (f (accumulate c) .end) (t .end) }
     where
       g : HasLogs d K (suc n) (accumulate c)
@@ -175,7 +170,7 @@ module _ (M : Dynamics) (keeps : KeepsState M) (d K s : ℕ) where
       go (ok b) p =
           let z : suc n + m ≡ n + suc m = omega arith in
           (record { finished = p .0 .finished ∙ z; state = p .0 .state; directions = p .0 .directions; sums = p .0 .sums; faint = p .0 .faint }, ap suc (p .1))
-      go (refused r) p = p ∙ omega arith
+      go (refused r) p = (p .0 ∙ omega arith, p .1)
 
   measured-rows : (w n : ℕ) (c : RunState) → Has d K n c → Rows d K n w (measured M s w c)
   unfolding measured
@@ -187,7 +182,7 @@ module _ (M : Dynamics) (keeps : KeepsState M) (d K s : ℕ) where
   from-rows : (w : ℕ) (x : Status) → Holds (Has d K 0) 0 x → Rows d K 0 w (measured-from M s w x)
   unfolding measured-from
   from-rows w (ok c) h = measured-rows w 0 c h
-  from-rows w (refused r) h = record { wide = tt; few = omega arith; end = h ∙ omega arith }
+  from-rows w (refused r) h = record { wide = tt; few = omega arith; end = (h .0 ∙ omega arith, h .1) }
 
 -- the whole run
 pub course-rows : (P : Problem) (K : ℕ) → KeepsState (P .dynamics) → Rows (length (P .start)) K 0 (P .windows) (course-of P K)

@@ -8,9 +8,10 @@ use lib.Ieee.{Float}
 use Rattle.error.specs.Refusal.{Answer, value, refused, number-of, place-of}
 use Rattle.system.specs.declared.System.{System}
 use Rattle.system.specs.declared.System.the-variants.{Lorenz, Rossler, VanDerPol, Linear}
-use Rattle.benettin.specs.Outputs.{Estimated}
+use Rattle.benettin.specs.Estimate.{Input}
+use Rattle.benettin.specs.Outputs.{Estimated, estimated}
 
--- what is left where `old` was
+-- what stands where `old` was
 abbrev pub value-or : Float → Answer Float → Float
 value-or old (value y) = y
 value-or old (refused r) = old
@@ -39,3 +40,33 @@ pub record Returns (number : ℕ) (c : List ℕ) (t rows exponents final : List 
   pub rows-are : rows ≡ x .rows
   pub exponents-are : exponents ≡ x .exponents
   pub final-state-is : final ≡ x .final-state
+
+-- a call of a run: the outputs as they are handed over, the number that it returns, and what counts, times and outputs hold afterwards
+pub record Call : Type 0 where
+  pub rows : List Float
+  pub exponents : List Float
+  pub final-state : List Float
+  pub number : ℕ
+  pub counts : List ℕ
+  pub times : List Float
+  pub rows-after : List Float
+  pub exponents-after : List Float
+  pub final-state-after : List Float
+
+abbrev pub call : List Float → List Float → List Float → ℕ → List ℕ → List Float → List Float → List Float → List Float → Call
+call rows exponents final number counts times rows′ exponents′ final′ =
+    record {
+      rows = rows;
+      exponents = exponents;
+      final-state = final;
+      number = number;
+      counts = counts;
+      times = times;
+      rows-after = rows′;
+      exponents-after = exponents′;
+      final-state-after = final′;
+    }
+
+-- what the contract says of a call for K rates
+abbrev pub Meets : Input → ℕ → Call → Type 0
+Meets i K c = Returns (c .number) (c .counts) (c .times) (c .rows-after) (c .exponents-after) (c .final-state-after) (estimated i K (c .rows) (c .exponents) (c .final-state))

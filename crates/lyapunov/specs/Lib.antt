@@ -1,3 +1,4 @@
--- What the contracts cite, and document 01's marked examples of all crates.
+-- What the contracts cite, demand 3 of calls from C, and document 01's marked examples of all crates.
 pub mod Interface
+pub mod LeadingOutputs
 pub mod Marked

@@ -14,7 +14,7 @@ ghost use Rattle.gram_schmidt.specs.GramSchmidt.{orthonormalised};
 ghost use Rattle.rk4.specs.Step.{stepped};
 ghost use Rattle.floats.specs.Arithmetic.{zero⁺};
 ghost use Rattle.benettin.specs.Estimate.{configured, default-seed, input, settings};
-ghost use Rattle.benettin.specs.Outputs.{estimated, left};
+ghost use Rattle.benettin.specs.Outputs.{observed};
 ghost use Rattle.diagnostics.specs.Rates as Rates;
 ghost use Rattle.lyapunov.specs.Interface as Interface;
 use benettin::BenettinConfig;
@@ -84,7 +84,7 @@ fn counts_of(place: u64, windows: u64, steps: u64, faint: [u64; 16]) -> [u64; 19
 
 // The answer of a run as C takes it, whatever its three slices hold.
 fn report_run(answer: SpectrumEstimate, counts: &mut [u64; 19], times: &mut [f64; 2]) -> u64
-    ensures { λ r. ⌜ ((rows exponents final : List Float) → Interface.Returns r (now (counts .exit)) (now (times .exit)) rows exponents final (left answer rows exponents final)) ⌝ }
+    ensures { λ r. ⌜ ((rows exponents final : List Float) → Interface.Returns r (now (counts .exit)) (now (times .exit)) rows exponents final (observed answer rows exponents final)) ⌝ }
 {
     *times = [answer.final_time, answer.measured_time];
     let mut place = 0;
@@ -239,9 +239,9 @@ pub extern "C" fn lyapunov_estimate_spectrum_at(
     counts: &mut [u64; 19],
     times: &mut [f64; 2],
 ) -> u64
-    ensures { λ r. ⌜ Interface.Returns r (now (counts .exit)) (now (times .exit)) (now (rows .exit)) (now (exponents .exit)) (now («final_state» .exit))
-        (estimated (input (Interface.system kind p0 p1 p2 dimension) (now (matrix .entry)) time (now (state .entry)) (settings «top_k» «step_size» «steps_per_window» windows «transient_windows» seed))
-        «top_k» (now (rows .entry)) (now (exponents .entry)) (now («final_state» .entry))) ⌝ }
+    ensures { λ r. ⌜ Interface.Meets (input (Interface.system kind p0 p1 p2 dimension) (now (matrix .entry)) time (now (state .entry)) (settings «top_k» «step_size» «steps_per_window» windows «transient_windows» seed))
+        «top_k»
+        (Interface.call (now (rows .entry)) (now (exponents .entry)) (now («final_state» .entry)) r (now (counts .exit)) (now (times .exit)) (now (rows .exit)) (now (exponents .exit)) (now («final_state» .exit))) ⌝ }
 {
     let system = system_of(kind, p0, p1, p2, dimension);
     let config = BenettinConfig {
@@ -287,9 +287,9 @@ pub extern "C" fn lyapunov_estimate_spectrum(
     counts: &mut [u64; 19],
     times: &mut [f64; 2],
 ) -> u64
-    ensures { λ r. ⌜ Interface.Returns r (now (counts .exit)) (now (times .exit)) (now (rows .exit)) (now (exponents .exit)) (now («final_state» .exit))
-        (estimated (input (Interface.system kind p0 p1 p2 dimension) (now (matrix .entry)) zero⁺ (now (state .entry)) (settings «top_k» «step_size» «steps_per_window» windows «transient_windows» seed))
-        «top_k» (now (rows .entry)) (now (exponents .entry)) (now («final_state» .entry))) ⌝ }
+    ensures { λ r. ⌜ Interface.Meets (input (Interface.system kind p0 p1 p2 dimension) (now (matrix .entry)) zero⁺ (now (state .entry)) (settings «top_k» «step_size» «steps_per_window» windows «transient_windows» seed))
+        «top_k»
+        (Interface.call (now (rows .entry)) (now (exponents .entry)) (now («final_state» .entry)) r (now (counts .exit)) (now (times .exit)) (now (rows .exit)) (now (exponents .exit)) (now («final_state» .exit))) ⌝ }
 {
     let system = system_of(kind, p0, p1, p2, dimension);
     let config = BenettinConfig {
@@ -331,9 +331,9 @@ pub extern "C" fn lyapunov_estimate_largest(
     counts: &mut [u64; 19],
     times: &mut [f64; 2],
 ) -> u64
-    ensures { λ r. ⌜ Interface.Returns r (now (counts .exit)) (now (times .exit)) (now (rows .exit)) (now (exponents .exit)) (now («final_state» .exit))
-        (estimated (input (Interface.system kind p0 p1 p2 dimension) (now (matrix .entry)) zero⁺ (now (state .entry)) (settings 1 «step_size» «steps_per_window» windows 0 default-seed))
-        1 (now (rows .entry)) (now (exponents .entry)) (now («final_state» .entry))) ⌝ }
+    ensures { λ r. ⌜ Interface.Meets (input (Interface.system kind p0 p1 p2 dimension) (now (matrix .entry)) zero⁺ (now (state .entry)) (settings 1 «step_size» «steps_per_window» windows 0 default-seed))
+        1
+        (Interface.call (now (rows .entry)) (now (exponents .entry)) (now («final_state» .entry)) r (now (counts .exit)) (now (times .exit)) (now (rows .exit)) (now (exponents .exit)) (now («final_state» .exit))) ⌝ }
 {
     let system = system_of(kind, p0, p1, p2, dimension);
     let answer = estimator::estimate::estimate_largest(
