@@ -51,7 +51,7 @@ module _ (G : Generator) where
         drawn-are d k (generator-after (G .next) d s),
       )
 
-pub draws-turn : (xs : List Float) (n i s s′ : ℕ) (x : Float) → i < n → length xs ≡ n → s′ ≡ next-state s → x ≡ unit (mix s′)
+pub draws-iteration : (xs : List Float) (n i s s′ : ℕ) (x : Float) → i < n → length xs ≡ n → s′ ≡ next-state s → x ≡ unit (mix s′)
     → take i xs ++ draws splitmix64 (n - i) s ≡ take (i + 1) (set xs i x) ++ draws splitmix64 (n - (i + 1)) s′
 unfolding splitmix64
-draws-turn xs n i s s′ x h e a b = draws-next splitmix64 xs n i s h e ∙ rw (b, a)
+draws-iteration xs n i s s′ x h e a b = draws-next splitmix64 xs n i s h e ∙ rw (b, a)

@@ -30,7 +30,7 @@ use Rattle.benettin.specs.LeadingSpectrum.{leading-row, leading, AtOrAbo
 use Rattle.benettin.specs.Estimate.{Input, early-tests, problem, dynamics, estimate}
 use Rattle.benettin.proofs.Prefix.{cut-at, cut-none, cut-some, take-replicate, drawn-directions-take, drawn-directions-sized, drawn-directions-length}
 use Rattle.benettin.proofs.Prefix.{first-not-finite-directions, Below, first-not-finite-below, cut, orthonormalise-take, orthonormalise-sized, Whole, orthonormalise-whole}
-use Rattle.benettin.proofs.Simulation.{Frame, Fine, Gone, Similar, SimilarCourses, Law, similar-course}
+use Rattle.benettin.proofs.Simulation.{Relation, Related, Excluded, Similar, SimilarCourses, Invariant, similar-course}
 
 -- ---- what is asked of a problem
 
@@ -58,13 +58,13 @@ prefix-of k c =
 
 -- ---- the run for K beside the run for k
 
-abbrev prefix : ℕ → ℕ → Frame
+abbrev prefix : ℕ → ℕ → Relation
 prefix d k =
     record {
-      Kept = λ c e. Sized d (c .directions) × (e ≡ prefix-of k c);
-      Left = AtOrAbove d k;
-      Right = λ s. ⊥;
-      Same = λ r s. s ≡ r;
+      States = λ c e. Sized d (c .directions) × (e ≡ prefix-of k c);
+      FirstExcluded = AtOrAbove d k;
+      SecondExcluded = λ s. ⊥;
+      Refusals = λ r s. s ≡ r;
       Rows = λ rs ss. ss ≡ map (leading-row k) rs;
     }
 
@@ -101,7 +101,7 @@ row-leading : (M : Dynamics) (k : ℕ) (c : RunState) → row M (prefix-of k c) 
 unfolding row
 row-leading M k c = simp map-take
 
-pub duration-sim : (X : Frame) (M : Dynamics) (c e : RunState) → X .Kept c e → X .Same (refused-at 15 0 c) (refused-at 15 0 e) → Similar X (check-duration M c) (check-duration M e)
+pub duration-sim : (X : Relation) (M : Dynamics) (c e : RunState) → X .States c e → X .Refusals (refused-at 15 0 c) (refused-at 15 0 e) → Similar X (check-duration M c) (check-duration M e)
 unfolding check-duration
 duration-sim X M c e r s = go (finite (M .duration))
   where
@@ -128,7 +128,7 @@ module _ (M : Dynamics) (keeps : Keeps M) (pd : 0 < M .dim) (k : ℕ) where
       rw (orthonormalise-take (M .lengths) k [] (c .directions))
       (prefix-collapsed (M .dim) k (b .collapse) c b (orthonormalise-sized (M .lengths) (M .dim) [] (c .directions) s))
 
-  prefix-law : Law (prefix (M .dim) k) M M
+  prefix-law : Invariant (prefix (M .dim) k) M M
   unfolding count-faint accumulate
   prefix-law =
       record {
@@ -152,17 +152,17 @@ abbrev Has : ℕ → ℕ → RunState → Type 0
 Has d k c = Sized d (c .directions) × (length (c .directions) ≡ k)
 
 -- the run beside itself
-abbrev low : ℕ → ℕ → Frame
+abbrev low : ℕ → ℕ → Relation
 low d k =
     record {
-      Kept = λ c e. Has d k c × (e ≡ c);
-      Left = λ r. ⊥;
-      Right = λ s. ⊥;
-      Same = λ r s. ¬ AtOrAbove d k r;
+      States = λ c e. Has d k c × (e ≡ c);
+      FirstExcluded = λ r. ⊥;
+      SecondExcluded = λ s. ⊥;
+      Refusals = λ r s. ¬ AtOrAbove d k r;
       Rows = λ rs ss. Unit {0};
     }
 
-low-tested : (d k : ℕ) → 0 < d → (p q : Option ℕ) (b : Bool) (c n : RunState) → Has d k n → Below (k * d) q → Fine (low d k) (tested p q b c n) (tested p q b c n)
+low-tested : (d k : ℕ) → 0 < d → (p q : Option ℕ) (b : Bool) (c n : RunState) → Has d k n → Below (k * d) q → Related (low d k) (tested p q b c n) (tested p q b c n)
 unfolding tested
 low-tested d k pd (some i) q b c n s h = other d k 16 i (c .finished) (c .steps) (omega arith) (omega arith)
 low-tested d k pd none none false c n s h = other d k 18 0 (c .finished) (c .steps) (omega arith) (omega arith)
@@ -173,7 +173,7 @@ low-tested d k pd none (some i) b c n s h = go
     go (inl e) = let z : _≡_ {A = ℕ} 17 14 = e .0 in omega arith
     go (inr e) = omega (arith, le-div-iff-mul-le pd .0 (e .1))
 
-low-collapsed : (d k : ℕ) (o : Option ℕ) (c : RunState) (b : Basis) → Sized d (b .directions) × (length (b .directions) ≡ k) → Below k o → Fine (low d k) (unless-collapsed o c b) (unless-collapsed o c b)
+low-collapsed : (d k : ℕ) (o : Option ℕ) (c : RunState) (b : Basis) → Sized d (b .directions) × (length (b .directions) ≡ k) → Below k o → Related (low d k) (unless-collapsed o c b) (unless-collapsed o c b)
 unfolding unless-collapsed
 low-collapsed d k none c b s h = (s, refl)
 low-collapsed d k (some i) c b s h = go
@@ -183,7 +183,7 @@ low-collapsed d k (some i) c b s h = go
     go (inr e) = let z : _≡_ {A = ℕ} 14 17 = e .0 in omega arith
 
 module _ (M : Dynamics) (keeps : Keeps M) (pd : 0 < M .dim) (k : ℕ) where
-  low-step : (c : RunState) → Has (M .dim) k c → Fine (low (M .dim) k) (step M c) (step M c)
+  low-step : (c : RunState) → Has (M .dim) k c → Related (low (M .dim) k) (step M c) (step M c)
   unfolding step
   low-step c s =
       let a = M .advance (c .steps) (c .state) in
@@ -194,14 +194,14 @@ module _ (M : Dynamics) (keeps : Keeps M) (pd : 0 < M .dim) (k : ℕ) where
       low-tested (M .dim) k pd (first-not-finite (a .0)) (first-not-finite (concat vs)) (finite t) c (stepped c (a .0) vs t) (sz, n)
       (subst (λ (m : ℕ). Below m (first-not-finite (concat vs))) (length-concat (M .dim) vs sz ∙ ap (λ (m : ℕ). m * M .dim) n) (first-not-finite-below (concat vs)))
 
-  low-reorthonormalise : (c : RunState) → Has (M .dim) k c → Fine (low (M .dim) k) (reorthonormalise M c) (reorthonormalise M c)
+  low-reorthonormalise : (c : RunState) → Has (M .dim) k c → Related (low (M .dim) k) (reorthonormalise M c) (reorthonormalise M c)
   unfolding reorthonormalise
   low-reorthonormalise c s =
       let b = orthonormalise (M .lengths) [] (c .directions) in
       let w : Whole k b = subst (λ (n : ℕ). Whole n b) (s .1) (orthonormalise-whole (M .lengths) [] (c .directions)) in
       low-collapsed (M .dim) k (b .collapse) c b (orthonormalise-sized (M .lengths) (M .dim) [] (c .directions) (s .0), w .0) (w .1)
 
-  low-law : Law (low (M .dim) k) M M
+  low-law : Invariant (low (M .dim) k) M M
   unfolding count-faint accumulate
   low-law =
       record {
@@ -225,7 +225,7 @@ start-prefix P k K h =
 
 -- ---- the answer
 
-answer-leading : (M : Dynamics) (n k K : ℕ) → k ≤ K → (rs ss : List Row) (x y : Status) → ss ≡ map (leading-row k) rs → Fine (prefix (M .dim) k) x y
+answer-leading : (M : Dynamics) (n k K : ℕ) → k ≤ K → (rs ss : List Row) (x y : Status) → ss ≡ map (leading-row k) rs → Related (prefix (M .dim) k) x y
     → leading k (answer M n K rs x) ≡ answer M n k ss y
 unfolding answer
 answer-leading M n k K h rs ss (ok c) (ok e) q s = rw (q, s .1) (simp map-take)
@@ -233,7 +233,7 @@ answer-leading M n k K h rs ss (ok c) (refused b) q s = absurd s
 answer-leading M n k K h rs ss (refused a) (ok e) q s = absurd s
 answer-leading M n k K h rs ss (refused a) (refused b) q s = rw (q, s, take-take {A = ℕ} k K (replicate 16 0) h)
 
-late-answer : (M : Dynamics) (n k K : ℕ) (rs : List Row) (x y : Status) → Gone (prefix (M .dim) k) x y → RefusedFrom (M .dim) k (answer M n K rs x)
+late-answer : (M : Dynamics) (n k K : ℕ) (rs : List Row) (x y : Status) → Excluded (prefix (M .dim) k) x y → RefusedFrom (M .dim) k (answer M n K rs x)
 unfolding answer
 late-answer M n k K rs (ok c) y (inl l) = absurd l
 late-answer M n k K rs (refused r) y (inl l) = l
@@ -244,7 +244,7 @@ low-answer : (P : Problem) (k : ℕ) (t : Course) → SimilarCourses (low (P .dy
 unfolding answer
 low-answer P k t s = go (t .end) s
   where
-    go : (x : Status) → Gone (low (P .dynamics .dim) k) x x ⊎ (Unit {0} × Fine (low (P .dynamics .dim) k) x x) → ¬ RefusedFrom (P .dynamics .dim) k (answer (P .dynamics) (P .windows) k (t .rows) x)
+    go : (x : Status) → Excluded (low (P .dynamics .dim) k) x x ⊎ (Unit {0} × Related (low (P .dynamics .dim) k) x x) → ¬ RefusedFrom (P .dynamics .dim) k (answer (P .dynamics) (P .windows) k (t .rows) x)
     go (ok c) s = λ b. b
     go (refused r) (inl (inl l)) = absurd l
     go (refused r) (inl (inr l)) = absurd l

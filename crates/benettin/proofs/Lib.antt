@@ -1,4 +1,5 @@
 -- Laws of the definitions of specs/, one subject a file.
+pub mod Draws
 pub mod Prefix
 pub mod Simulation
 pub mod LeadingSpectrum
@@ -7,5 +8,4 @@ pub mod Sizes
 pub mod Reading
 pub mod Refusals
 pub mod LeadingOutputs
-pub mod Draws
 pub mod Steps

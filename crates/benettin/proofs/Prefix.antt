@@ -11,6 +11,7 @@ use lib.ListN.{length, take, replicate, length-map}
 use lib.Ieee.{Float}
 use Rattle.gram_schmidt.specs.Orthonormalise.{Lengths, Basis, orthonormalise, with-direction, orthogonalise, collapsed}
 use Rattle.benettin.specs.Run.{Generator, draws, drawn-directions, generator-after}
+use Rattle.benettin.proofs.Draws.{draws-length}
 use Rattle.floats.specs.Vector.{concat}
 use lib.Ieee.Scale.{finite}
 use Rattle.floats.specs.Finite.{first-not-finite}
@@ -58,15 +59,10 @@ drawn-directions-take G d (suc k) (suc n) s h = ap (λ t. draws G d s ∷ t) (dr
 
 -- ---- directions of d entries each
 
-pub draws-sized : (G : Generator) (n s : ℕ) → length (draws G n s) ≡ n
-unfolding draws
-draws-sized G zero s = refl
-draws-sized G (suc n) s = ap suc (draws-sized G n (G .next s))
-
 pub drawn-directions-sized : (G : Generator) (d n s : ℕ) → Sized d (drawn-directions G d n s)
 unfolding drawn-directions
 drawn-directions-sized G d zero s = tt
-drawn-directions-sized G d (suc n) s = (draws-sized G d s, drawn-directions-sized G d n (generator-after (G .next) d s))
+drawn-directions-sized G d (suc n) s = (draws-length G d s, drawn-directions-sized G d n (generator-after (G .next) d s))
 
 pub drawn-directions-length : (G : Generator) (d n s : ℕ) → length (drawn-directions G d n s) ≡ n
 unfolding drawn-directions

@@ -1,4 +1,4 @@
--- A window: its steps turn by turn, the orthonormalisation behind them, and the steps as the definition of a run has them.
+-- A window: its steps one by one, the orthonormalisation behind them, and the steps as the definition of a run has them.
 use Prim.Native.Nat.{ℕ, zero, suc, _+_, _-_, _≤_, _<_}
 use native.Mathlib.Nat.{sub-zero}
 use native.Mathlib.Numerals.{add-one}
@@ -32,30 +32,30 @@ use Rattle.benettin.specs.Estimate.{dynamics}
 use Rattle.benettin.specs.Window.{Advanced, after, advance-steps, observed, windowed, orthonormalised-after, with-steps, status-of}
 use Rattle.benettin.specs.declared.window.Advance.{Advance}
 
--- ---- turn i of n, from what the step told
+-- ---- iteration i of n, from what the step told
 
 module _ (S : System) (m : List Float) (k : ℕ) (h : Float) (n i : ℕ) (time : Float) (x t : List Float) where
-  pub turns-start : advance-steps S m k h (n - 0) 0 time x t ≡ advance-steps S m k h n 0 time x t
-  turns-start = rw sub-zero
+  pub iterations-start : advance-steps S m k h (n - 0) 0 time x t ≡ advance-steps S m k h n 0 time x t
+  iterations-start = rw sub-zero
 
-  pub turns-end : n ≤ i → advance-steps S m k h (n - i) i time x t ≡ record { refusal = none; steps = i; time = time; state = x; tangents = t }
+  pub iterations-end : n ≤ i → advance-steps S m k h (n - i) i time x t ≡ record { refusal = none; steps = i; time = time; state = x; tangents = t }
   unfolding advance-steps
-  turns-end g = let z : n - i ≡ 0 = omega arith in rw z
+  iterations-end g = let z : n - i ≡ 0 = omega arith in rw z
 
   module _ (r : Outcome) (x′ t′ : List Float) (e : Step.left r x′ t′ ≡ stepped S m time x t k h) (g : i < n) where
-    turn : (o : Option Refusal) → reported r ≡ o
+    iteration : (o : Option Refusal) → reported r ≡ o
         → advance-steps S m k h (n - i) i time x t ≡ after o (finite (time ⊕ h)) i time (Step.left r x′ t′) (advance-steps S m k h (n - (i + 1)) (i + 1) (time ⊕ h) x′ t′)
     unfolding advance-steps
-    turn o f = let z : n - i ≡ suc (n - (i + 1)) = omega arith in rw (z, ← e, f)
+    iteration o f = let z : n - i ≡ suc (n - (i + 1)) = omega arith in rw (z, ← e, f)
 
-    pub turn-on : r ≡ Accepted → finite (time ⊕ h) ≡ true → advance-steps S m k h (n - i) i time x t ≡ advance-steps S m k h (n - (i + 1)) (i + 1) (time ⊕ h) x′ t′
-    turn-on f b = turn none (ap reported f) ∙ rw b
+    pub iteration-on : r ≡ Accepted → finite (time ⊕ h) ≡ true → advance-steps S m k h (n - i) i time x t ≡ advance-steps S m k h (n - (i + 1)) (i + 1) (time ⊕ h) x′ t′
+    iteration-on f b = iteration none (ap reported f) ∙ rw b
 
-    pub turn-late : r ≡ Accepted → finite (time ⊕ h) ≡ false → advance-steps S m k h (n - i) i time x t ≡ record { refusal = some (refuse 18 0); steps = i; time = time; state = x′; tangents = t′ }
-    turn-late f b = turn none (ap reported f) ∙ rw b
+    pub iteration-late : r ≡ Accepted → finite (time ⊕ h) ≡ false → advance-steps S m k h (n - i) i time x t ≡ record { refusal = some (refuse 18 0); steps = i; time = time; state = x′; tangents = t′ }
+    iteration-late f b = iteration none (ap reported f) ∙ rw b
 
-    pub turn-refused : (ε : LyapunovError) → r ≡ Refused ε → advance-steps S m k h (n - i) i time x t ≡ record { refusal = some (refusal ε); steps = i; time = time; state = x′; tangents = t′ }
-    turn-refused ε f = turn (some (refusal ε)) (ap reported f)
+    pub iteration-refused : (ε : LyapunovError) → r ≡ Refused ε → advance-steps S m k h (n - i) i time x t ≡ record { refusal = some (refusal ε); steps = i; time = time; state = x′; tangents = t′ }
+    iteration-refused ε f = iteration (some (refusal ε)) (ap reported f)
 
 -- ---- the orthonormalisation, from what the steps told
 
@@ -135,19 +135,19 @@ Follows S m k h n₀ n i time x t A =
     ((c : RunState) (made : ℕ) → status-of (A .refusal) (with-steps (dim S) k c (A .state) (A .tangents) (A .time) (made + A .steps)) ≡ steps (dynamics S m h n₀) n (with-steps (dim S) k c x t time (made + i)))
     × (A .steps ≤ i + n) × (finite (A .time) ≡ true) × (length (A .state) ≡ length x) × (length (A .tangents) ≡ length t)
 
--- one turn, when the rest of them follows
-turn-follows : (S : System) (m : List Float) (k : ℕ) (h : Float) (n₀ n i : ℕ) (time : Float) (x t : List Float) (rest : Advanced) → Passed S m time x t k h
+-- one iteration, when the rest of them follows
+iteration-follows : (S : System) (m : List Float) (k : ℕ) (h : Float) (n₀ n i : ℕ) (time : Float) (x t : List Float) (rest : Advanced) → Passed S m time x t k h
     → (o : Option Refusal) → stepped S m time x t k h .refusal ≡ o → (b : Bool) → finite (time ⊕ h) ≡ b
     → (b ≡ true → Follows S m k h n₀ n (i + 1) (time ⊕ h) (stepped S m time x t k h .state) (stepped S m time x t k h .tangents) rest)
     → Follows S m k h n₀ (suc n) i time x t (after o b i time (stepped S m time x t k h) rest)
 unfolding steps _then_
-turn-follows S m k h n₀ n i time x t rest P (some ρ) f b g r =
+iteration-follows S m k h n₀ n i time x t rest P (some ρ) f b g r =
     let l = stepped-lengths S m time x t k h in
     (λ c made. rw (step-refused S m k h n₀ time x t P c (made + i) ρ f), omega arith, P .initial-time, l .0, l .1)
-turn-follows S m k h n₀ n i time x t rest P none f false g r =
+iteration-follows S m k h n₀ n i time x t rest P none f false g r =
     let l = stepped-lengths S m time x t k h in
     (λ c made. rw (step-late S m k h n₀ time x t P c (made + i) f g), omega arith, P .initial-time, l .0, l .1)
-turn-follows S m k h n₀ n i time x t rest P none f true g r =
+iteration-follows S m k h n₀ n i time x t rest P none f true g r =
     let l = stepped-lengths S m time x t k h in
     let q = r refl in (
       λ c made. let z : made + (i + 1) ≡ made + i + 1 = omega arith in q .0 c made ∙ rw (z, step-on S m k h n₀ time x t P c (made + i) f g),
@@ -162,5 +162,5 @@ unfolding advance-steps steps
 steps-follow S m k h n₀ zero i time x t P = (λ c made. refl, omega arith, P .initial-time, refl, refl)
 steps-follow S m k h n₀ (suc n) i time x t P =
     let s = stepped S m time x t k h in
-    turn-follows S m k h n₀ n i time x t _ P (s .refusal) refl (finite (time ⊕ h)) refl
+    iteration-follows S m k h n₀ n i time x t _ P (s .refusal) refl (finite (time ⊕ h)) refl
     (λ g. steps-follow S m k h n₀ n (i + 1) (time ⊕ h) (s .state) (s .tangents) (passed-on S m k h n₀ time x t P g))

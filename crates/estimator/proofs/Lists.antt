@@ -1,4 +1,4 @@
--- Loops that go over lists entry by entry: one more turn, and the end.
+-- Loops that go over lists entry by entry: one more iteration, and the end.
 use Prim.Native.Nat.{ℕ, zero, suc, _+_, _≤_, _<_}
 use native.Mathlib.Numerals.{add-one}
 use native.Mathlib.Omega.{arith}
@@ -27,7 +27,7 @@ counted-more (x ∷ xs) [] i = omega arith
 counted-more (x ∷ xs) (y ∷ ys) zero = cond-more (euclidean .faint y) x
 counted-more (x ∷ xs) (y ∷ ys) (suc i) = counted-more xs ys i
 
--- a turn of the count: a faint mark, and one that is not
+-- a iteration of the count: a faint mark, and one that is not
 module _ (xs : List ℕ) (ys : List Float) (i : ℕ) (h : i < length xs) (g : i < length ys) where
   pub counted-yes : (zs : List ℕ) → euclidean .faint (getD ys i nan) ≡ true → zs ≡ set xs i (getD xs i 0 + 1)
       → (length zs ≡ length xs) × (take i xs ++ updated counted (drop i xs) (drop i ys) ≡ take (i + 1) zs ++ updated counted (drop (i + 1) zs) (drop (i + 1) ys)) × ((j : ℕ) → i + 1 ≤ j → getD zs j 0 ≡ getD xs j 0)

@@ -119,11 +119,11 @@ module _ (M : Dynamics) (s n w : ℕ) (c : RunState) where
 -- ---- a measured window
 
 module _ (M : Dynamics) (old : List Float) (o : Status) (c : RunState) (v : Outcome) (e : status v c ≡ o) where
-  pub turn-stop : (ε : LyapunovError) → v ≡ Refused ε → recorded old (status v c) ≡ with-row-of M old o
-  turn-stop ε g = rw (← e, g)
+  pub iteration-stop : (ε : LyapunovError) → v ≡ Refused ε → recorded old (status v c) ≡ with-row-of M old o
+  iteration-stop ε g = rw (← e, g)
 
-  turn-done : (c′ : RunState) (new : List Float) → v ≡ Accepted → c′ ≡ accumulate c → new ≡ flat-row (row M c′) → recorded new (ok c′) ≡ with-row-of M old o
-  turn-done c′ new g f h = rw (← e, g, h, f)
+  iteration-done : (c′ : RunState) (new : List Float) → v ≡ Accepted → c′ ≡ accumulate c → new ≡ flat-row (row M c′) → recorded new (ok c′) ≡ with-row-of M old o
+  iteration-done c′ new g f h = rw (← e, g, h, f)
 
 module _ (S : System) (m : List Float) (h : Float) (n k : ℕ) (x t norms : List Float) (q : Progress) (l : length norms ≡ 32) (f : k ≤ 16) (z : length (q .sums) ≡ 16) where
   abbrev added : Progress
@@ -147,7 +147,7 @@ module _ (S : System) (m : List Float) (h : Float) (n k : ℕ) (x t norms : List
       let ew′ : w ≡ as-float (q .windows + 1) = ew ∙ ap (λ (r : Progress). as-float (r .windows)) ep in
       let s : status (p .outcome) (run-state (dim S) k x t norms p) ≡ ok (run-state (dim S) k x t norms added) = rw (ep, g) in
       ap (recorded new) s
-      ∙ turn-done (dynamics S m h n) old o (run-state (dim S) k x t norms q) (q .outcome) e (run-state (dim S) k x t norms added) new g accounted (en ∙ rw (ep, eu, ew′, logs-many))
+      ∙ iteration-done (dynamics S m h n) old o (run-state (dim S) k x t norms q) (q .outcome) e (run-state (dim S) k x t norms added) new g accounted (en ∙ rw (ep, eu, ew′, logs-many))
 
   pub within-added : (made : ℕ) (r p : Progress) → p ≡ added → Within k made 1 0 r q → Within k made 1 1 r p
   within-added made r p e y =
@@ -210,14 +210,14 @@ module _ (M : Dynamics) (s n w : ℕ) (rows : List Float) (a width : ℕ) (c e :
       let q = stop-from M rows a _ new e (measured M s (n - (w + 1))) (window M s c) (refused-by ε e) (ap (λ (u : Outcome). recorded new (status u e)) (sym k) ∙ t) in
       q .0 ∙ rw (q .1, put-same rows a width l, k)
 
-  turn-by : (u : Outcome) → v ≡ u → written rows a (measured M s (suc (n - (w + 1))) c) ≡ rest M s n put (a + width) (w + 1) (status v e)
+  iteration-by : (u : Outcome) → v ≡ u → written rows a (measured M s (suc (n - (w + 1))) c) ≡ rest M s n put (a + width) (w + 1) (status v e)
   unfolding measured-from flat-rows
-  turn-by Accepted k = measure-next k ∙ rw k
-  turn-by (Refused ε) k = measure-refused ε k ∙ rw k
+  iteration-by Accepted k = measure-next k ∙ rw k
+  iteration-by (Refused ε) k = measure-refused ε k ∙ rw k
 
-  pub measure-turn : (o : Outcome) → o ≡ Accepted → rest M s n rows a w (status o c) ≡ rest M s n put (a + width) (w + 1) (status v e)
+  pub measure-iteration : (o : Outcome) → o ≡ Accepted → rest M s n rows a w (status o c) ≡ rest M s n put (a + width) (w + 1) (status v e)
   unfolding measured-from
-  measure-turn o k = let z : n - w ≡ suc (n - (w + 1)) = omega arith in rw (k, z) (turn-by v refl)
+  measure-iteration o k = let z : n - w ≡ suc (n - (w + 1)) = omega arith in rw (k, z) (iteration-by v refl)
 
 module _ (M : Dynamics) (s n : ℕ) (rows : List Float) (a w : ℕ) where
   pub measure-start : (o : Status) → rest M s n rows 0 0 o ≡ written rows 0 (measured-from M s n o)

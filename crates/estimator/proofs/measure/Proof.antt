@@ -8,7 +8,7 @@ use Rattle.system.specs.System.{dim}
 use Rattle.benettin.specs.Run as Run
 use Rattle.benettin.specs.Run.{Dynamics, RunState}
 use Rattle.estimator.specs.Progress.{dynamics-of, run-state, status, Within, written}
-use Rattle.estimator.proofs.Loops.{fitting-kept, within-start, within-next, within-up, room-next, rest, measure-start, measure-turn, measure-stop, measure-end, row-room, row-many, next-place, rows-kept}
+use Rattle.estimator.proofs.Loops.{fitting-kept, within-start, within-next, within-up, room-next, rest, measure-start, measure-iteration, measure-stop, measure-end, row-room, row-many, next-place, rows-kept}
 use Rattle.estimator.proofs.measure.Statement.{statement}
 use Rattle.estimator.proofs.measure.Tie as tie
 
@@ -23,12 +23,12 @@ Inv-loop system matrix state₀ tangents₀ norms₀ rows₀ config width p₀ w
 abbrev μ-loop : tie.MeasureT-loop
 μ-loop system matrix state₀ tangents₀ norms₀ rows₀ config width p₀ w₀ a₀ state tangents norms rows p w a = config .windows - w
 
--- the start, the turn, and the accepted outcome that are before a place in the code
+-- the start, the iteration, and the accepted outcome that are before a place in the code
 abbrev start : tie.At-loop Inv-loop μ-loop → tie.Start Inv-loop μ-loop
 start c = c .before .before .before .before .before .before .before
 
-abbrev turn : tie.After-enum-told Inv-loop μ-loop → tie.At-loop Inv-loop μ-loop
-turn c = c .before .before .before .before
+abbrev iteration : tie.After-enum-told Inv-loop μ-loop → tie.At-loop Inv-loop μ-loop
+iteration c = c .before .before .before .before
 
 abbrev accepted : tie.After-measured-window Inv-loop μ-loop → tie.After-enum-told Inv-loop μ-loop
 accepted c = c .before .before .before .before .before
@@ -39,30 +39,30 @@ M c = dynamics-of (c .args .system) (c .args .matrix .now) (c .args .config)
 abbrev width : tie.Start Inv-loop μ-loop → ℕ
 width c = 1 + 2 * c .args .config .«top_k»
 
--- where a turn starts, and where its window leads
+-- where a iteration starts, and where its window leads
 abbrev here : tie.At-loop Inv-loop μ-loop → RunState
 here c = let a = start c .args in run-state (dim (a .system)) (a .config .«top_k») (c .loop .state) (c .loop .tangents) (c .loop .norms) (c .loop .p)
 
 abbrev there : tie.After-measured-window Inv-loop μ-loop → RunState
 there c =
-    let a = start (turn (accepted c)) .args in
+    let a = start (iteration (accepted c)) .args in
     let o = c .measured-window in
     run-state (dim (a .system)) (a .config .«top_k») (o .last .1 .1 .0) (o .last .1 .1 .1 .0) (o .last .1 .1 .1 .1 .0) (o .result)
 
--- there is a window left, its row is within the slice, and as long after it
-left : (c : tie.After-enum-told Inv-loop μ-loop) → turn c .loop .w < start (turn c) .args .config .windows
-left c = c .before .before .if1 .taken
+-- a window is yet to be made, its row is within the slice, and as long after it
+below : (c : tie.After-enum-told Inv-loop μ-loop) → iteration c .loop .w < start (iteration c) .args .config .windows
+below c = c .before .before .if1 .taken
 
-room : (c : tie.After-enum-told Inv-loop μ-loop) → turn c .loop .a + width (start (turn c)) ≤ length (turn c .loop .rows)
+room : (c : tie.After-enum-told Inv-loop μ-loop) → iteration c .loop .a + width (start (iteration c)) ≤ length (iteration c .loop .rows)
 room c =
-    let l = turn c .loop in
-    let s = start (turn c) in
-    row-room (l .w) (s .args .config .windows) (width s) (l .a) (length (l .rows)) (length (s .args .rows .now)) (left c) (s .pre .2) (l .inv .6) (l .inv .7)
+    let l = iteration c .loop in
+    let s = start (iteration c) in
+    row-room (l .w) (s .args .config .windows) (width s) (l .a) (length (l .rows)) (length (s .args .rows .now)) (below c) (s .pre .2) (l .inv .6) (l .inv .7)
 
-many : (c : tie.After-measured-window Inv-loop μ-loop) → length (c .measured-window .last .1 .1 .1 .1 .1 .0) ≡ width (start (turn (accepted c)))
+many : (c : tie.After-measured-window Inv-loop μ-loop) → length (c .measured-window .last .1 .1 .1 .1 .1 .0) ≡ width (start (iteration (accepted c)))
 many c =
-    let l = turn (accepted c) .loop in
-    c .measured-window .kept .1 .1 .1 .1 .1 .0 ∙ row-many (l .rows) (l .a) (width (start (turn (accepted c)))) (room (accepted c))
+    let l = iteration (accepted c) .loop in
+    c .measured-window .kept .1 .1 .1 .1 .1 .0 ∙ row-many (l .rows) (l .a) (width (start (iteration (accepted c)))) (room (accepted c))
 
 mul-width : tie.Need-mul-width Inv-loop μ-loop
 mul-width c = omega (arith, c .before .before .before .before .before .before .pre .0 .few)
@@ -115,7 +115,7 @@ add-e : tie.Need-add-e Inv-loop μ-loop
 add-e c = omega (arith, room c)
 
 mul-measured-window : tie.Need-mul-measured-window Inv-loop μ-loop
-mul-measured-window c = let e = c .before .before .before in omega (arith, room e, turn e .loop .inv .7, start (turn e) .good .1 .1 .1 .1 .1 .0)
+mul-measured-window c = let e = c .before .before .before in omega (arith, room e, iteration e .loop .inv .7, start (iteration e) .good .1 .1 .1 .1 .1 .0)
 
 sub-measured-window : tie.Need-sub-measured-window Inv-loop μ-loop
 sub-measured-window c = search needs
@@ -129,11 +129,11 @@ part-measured-window-end c = room (c .before .before .before)
 measured-window-requires : tie.Need-measured-window-requires Inv-loop μ-loop
 measured-window-requires c κs =
     let e = c .before .before .before .before in
-    let l = turn e .loop in
-    let s = start (turn e) in
+    let l = iteration e .loop in
+    let s = start (iteration e) in
     let g = s .args .config in (
       fitting-kept _ _ _ (s .pre .0) (l .inv .1) (l .inv .2) (l .inv .3),
-      room-next (g .«top_k») (l .w) (g .«steps_per_window») (l .w) 1 (g .windows) (g .windows) (s .args .from) (l .p) (s .pre .1) (l .inv .4) (left e) (omega (arith, left e)),
+      room-next (g .«top_k») (l .w) (g .«steps_per_window») (l .w) 1 (g .windows) (g .windows) (s .args .from) (l .p) (s .pre .1) (l .inv .4) (below e) (omega (arith, below e)),
       row-many (l .rows) (l .a) (width s) (room e),
       s .pre .3,
     )
@@ -148,17 +148,17 @@ loop-again : tie.Need-loop-again Inv-loop μ-loop
 loop-again c =
     let b = c .before .before .before .before .before .before .before .before in
     let e = accepted b in
-    let t = turn e in
+    let t = iteration e in
     let l = t .loop in
     let s = start t in
     let g = s .args .config in
     let o = b .measured-window in (
-      omega (arith, left e),
+      omega (arith, below e),
       o .kept .1 .1 .0 ∙ l .inv .1,
       o .kept .1 .1 .1 .0 ∙ l .inv .2,
       o .kept .1 .1 .1 .1 .0 ∙ l .inv .3,
       within-next (g .«top_k») (l .w) (g .«steps_per_window») (l .w) 1 (s .args .from) (l .p) (o .result) (l .inv .4) (o .ensures .1),
-      sym (measure-turn (M s) (g .«steps_per_window») (g .windows) (l .w) (l .rows) (l .a) (width s) (here t) (there b) (o .result .outcome) (o .last .1 .1 .1 .1 .1 .0) (left e) (room e) (many b) (o .ensures .0) (l .p .outcome) (e .enum-told .given .1)) ∙ l .inv .5,
+      sym (measure-iteration (M s) (g .«steps_per_window») (g .windows) (l .w) (l .rows) (l .a) (width s) (here t) (there b) (o .result .outcome) (o .last .1 .1 .1 .1 .1 .0) (below e) (room e) (many b) (o .ensures .0) (l .p .outcome) (e .enum-told .given .1)) ∙ l .inv .5,
       next-place (l .a) (l .w) (width s) (l .inv .6),
       rows-kept (l .rows) (l .a) (width s) (o .last .1 .1 .1 .1 .1 .0) (room e) (many b) ∙ l .inv .7,
     )

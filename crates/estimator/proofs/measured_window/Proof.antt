@@ -12,7 +12,7 @@ use Rattle.benettin.specs.Run as Run
 use Rattle.benettin.specs.Run.{Dynamics, RunState, Status}
 use Rattle.estimator.specs.Progress.{dynamics-of, run-state}
 use Rattle.estimator.specs.declared.Progress.{Progress}
-use Rattle.estimator.proofs.Loops.{room-less, turn-stop, measured-done, within-added, within-more}
+use Rattle.estimator.proofs.Loops.{room-less, iteration-stop, measured-done, within-added, within-more}
 use Rattle.estimator.proofs.measured_window.Statement.{statement}
 use Rattle.estimator.proofs.measured_window.Tie as tie
 
@@ -73,7 +73,7 @@ returns c =
     let b = c .before .before .before .before .before .before .before .before in
     let a = start b .args in
     let o = b .window in
-    (turn-stop (M (start b)) (a .row .now) (by-definition (start b)) (by-code b) (o .result .outcome) (o .ensures .0) _ (c .enum-told2 .given .1), within-more (a .config .«top_k») (a .config .«steps_per_window») (a .from) (o .result) (o .ensures .1))
+    (iteration-stop (M (start b)) (a .row .now) (by-definition (start b)) (by-code b) (o .result .outcome) (o .ensures .0) _ (c .enum-told2 .given .1), within-more (a .config .«top_k») (a .config .«steps_per_window») (a .from) (o .result) (o .ensures .1))
 
 slice-reshare-prefix-add-logs : tie.Need-slice-reshare-prefix-add-logs
 slice-reshare-prefix-add-logs c = few (c .before .before .before .before .before .before .before .before)

@@ -23,22 +23,22 @@ Inv-loop system matrix state₀ tangents₀ norms₀ config p₀ w₀ state tang
 abbrev μ-loop : tie.MeasureT-loop
 μ-loop system matrix state₀ tangents₀ norms₀ config p₀ w₀ state tangents norms p w = config .«transient_windows» - w
 
--- the start, and the turn, that are before a place in the code
+-- the start, and the iteration, that are before a place in the code
 abbrev start : tie.At-loop Inv-loop μ-loop → tie.Start Inv-loop μ-loop
 start c = c .before .before .before .before .before
 
-abbrev turn : tie.After-window Inv-loop μ-loop → tie.At-loop Inv-loop μ-loop
-turn c = c .before .before .before .before .before .before
+abbrev iteration : tie.After-window Inv-loop μ-loop → tie.At-loop Inv-loop μ-loop
+iteration c = c .before .before .before .before .before .before
 
 abbrev M : tie.Start Inv-loop μ-loop → Dynamics
 M c = dynamics-of (c .args .system) (c .args .matrix .now) (c .args .config)
 
--- where a turn starts, and where its window leads
+-- where a iteration starts, and where its window leads
 abbrev here : tie.At-loop Inv-loop μ-loop → RunState
 here c = let a = start c .args in run-state (dim (a .system)) (a .config .«top_k») (c .loop .state) (c .loop .tangents) (c .loop .norms) (c .loop .p)
 
 abbrev there : tie.After-window Inv-loop μ-loop → RunState
-there c = let a = start (turn c) .args in let o = c .window in run-state (dim (a .system)) (a .config .«top_k») (o .last .1 .1 .0) (o .last .1 .1 .1 .0) (o .last .1 .1 .1 .1 .0) (o .result)
+there c = let a = start (iteration c) .args in let o = c .window in run-state (dim (a .system)) (a .config .«top_k») (o .last .1 .1 .0) (o .last .1 .1 .1 .0) (o .last .1 .1 .1 .1 .0) (o .result)
 
 loop-holds : tie.Need-loop-holds Inv-loop μ-loop
 loop-holds c =
@@ -74,7 +74,7 @@ same-length-3 c = search needs
 returns : tie.Need-returns Inv-loop μ-loop
 returns c =
     let b = c .before .before .before .before .before .before .before .before in
-    let t = turn b in
+    let t = iteration b in
     let l = t .loop in
     let s = start t in
     let g = s .args .config in
@@ -93,7 +93,7 @@ loop-less c = search needs
 loop-again : tie.Need-loop-again Inv-loop μ-loop
 loop-again c =
     let b = c .before .before .before .before .before .before .before .before in
-    let t = turn b in
+    let t = iteration b in
     let l = t .loop in
     let s = start t in
     let g = s .args .config in

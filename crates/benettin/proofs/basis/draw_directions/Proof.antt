@@ -10,7 +10,7 @@ use Rattle.splitmix64.specs.declared.Draw.{Draw}
 use Rattle.splitmix64.specs.Mix.{symmetric-unit}
 use Rattle.benettin.specs.Run.{draws}
 use Rattle.benettin.specs.Estimate.{splitmix64}
-use Rattle.benettin.proofs.Draws.{draws-turn, draws-end}
+use Rattle.benettin.proofs.Draws.{draws-iteration, draws-end}
 use Rattle.benettin.proofs.basis.draw_directions.Statement.{statement}
 use Rattle.benettin.proofs.basis.draw_directions.Tie as tie
 
@@ -49,7 +49,7 @@ loop-again c =
     let d = c .before .symmetric-unit .ensures ∙ ap symmetric-unit (c .before .before .new .ensures) in (
       simp length-set (omega arith),
       length-set (l .tangents) (l .i) _ ∙ l .inv .1,
-      l .inv .2 ∙ draws-turn (l .tangents) (length t) (l .i) (l .state) _ _ (omega arith) (l .inv .1) (ap (λ (r : Draw). r .generator .state) d) (ap (λ (r : Draw). r .value) d ∙ rw (ap (λ (r : Draw). r .generator .state) d)),
+      l .inv .2 ∙ draws-iteration (l .tangents) (length t) (l .i) (l .state) _ _ (omega arith) (l .inv .1) (ap (λ (r : Draw). r .generator .state) d) (ap (λ (r : Draw). r .value) d ∙ rw (ap (λ (r : Draw). r .generator .state) d)),
     )
 
 same-length : tie.Need-same-length Inv-loop μ-loop

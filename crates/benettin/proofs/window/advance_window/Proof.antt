@@ -1,11 +1,11 @@
--- `benettin::window::advance_window` meets its contract. The loop's invariant: the turns from here on are all of them from the start.
+-- `benettin::window::advance_window` meets its contract. The loop's invariant: the iterations from here on are all of them from the start.
 use Prim.Native.Nat.{_-_, _≤_}
 use native.Mathlib.Omega.{arith}
 use mathlib.Core.Path.{_≡_, refl, sym, _∙_}
 use borrow.Author.Needs.{needs}
 use lib.ListN.{length}
 use Rattle.benettin.specs.Window.{advance-steps, advanced-window}
-use Rattle.benettin.proofs.Steps.{turns-start, turns-end, turn-on, turn-late, turn-refused}
+use Rattle.benettin.proofs.Steps.{iterations-start, iterations-end, iteration-on, iteration-late, iteration-refused}
 use Rattle.benettin.proofs.window.advance_window.Statement.{statement}
 use Rattle.benettin.proofs.window.advance_window.Tie as tie
 
@@ -18,7 +18,7 @@ abbrev μ-loop : tie.MeasureT-loop
 μ-loop system matrix state₀ tangents₀ config start time₀ i₀ state tangents time i = config .«steps_per_window» - i
 
 loop-holds : tie.Need-loop-holds Inv-loop μ-loop
-loop-holds c = let a = c .before .before .before .args in (omega arith, refl, refl, turns-start (a .system) (a .matrix .now) (a .config .«top_k») (a .config .«step_size») (a .config .«steps_per_window») 0 (a .start) (a .state .now) (a .tangents .now))
+loop-holds c = let a = c .before .before .before .args in (omega arith, refl, refl, iterations-start (a .system) (a .matrix .now) (a .config .«top_k») (a .config .«step_size») (a .config .«steps_per_window») 0 (a .start) (a .state .now) (a .tangents .now))
 
 step-requires : tie.Need-step-requires Inv-loop μ-loop
 step-requires c κs = search needs
@@ -37,7 +37,7 @@ returns c =
     let o = c .before .before .before .before .before .before .before .step in
     let f = c .before .before .before .before .before .before .before .before .before .before in
     let l = f .before .before .loop in
-    sym (turn-refused _ _ _ _ _ (l .i) _ _ _ (o .result) _ _ (o .ensures) (f .if1 .taken) _ (c .before .e .given .1)) ∙ l .inv .3
+    sym (iteration-refused _ _ _ _ _ (l .i) _ _ _ (o .result) _ _ (o .ensures) (f .if1 .taken) _ (c .before .e .given .1)) ∙ l .inv .3
 
 enum-told : tie.Need-enum-told Inv-loop μ-loop
 enum-told c = search needs
@@ -59,7 +59,7 @@ loop-again c =
       omega arith,
       o .kept .1 .1 .1 .0 ∙ l .inv .1,
       o .kept .1 .1 .1 .1 .0 ∙ l .inv .2,
-      sym (turn-on _ _ _ _ _ (l .i) _ _ _ (o .result) _ _ (o .ensures) (f .if1 .taken) (c .before .before .before .enum-told .given .1) (sym (c .before .is-finite .ensures) ∙ c .if2 .taken)) ∙ l .inv .3,
+      sym (iteration-on _ _ _ _ _ (l .i) _ _ _ (o .result) _ _ (o .ensures) (f .if1 .taken) (c .before .before .before .enum-told .given .1) (sym (c .before .is-finite .ensures) ∙ c .if2 .taken)) ∙ l .inv .3,
     )
 
 same-length-3 : tie.Need-same-length-3 Inv-loop μ-loop
@@ -73,7 +73,7 @@ returns-2 c =
     let o = c .before .before .before .before .before .before .before .before .before .step in
     let f = c .before .before .before .before .before .before .before .before .before .before .before .before in
     let l = f .before .before .loop in
-    sym (turn-late _ _ _ _ _ (l .i) _ _ _ (o .result) _ _ (o .ensures) (f .if1 .taken) (c .before .before .before .enum-told .given .1) (sym (c .before .is-finite .ensures) ∙ c .if2 .left)) ∙ l .inv .3
+    sym (iteration-late _ _ _ _ _ (l .i) _ _ _ (o .result) _ _ (o .ensures) (f .if1 .taken) (c .before .before .before .enum-told .given .1) (sym (c .before .is-finite .ensures) ∙ c .if2 .left)) ∙ l .inv .3
 
 same-length-5 : tie.Need-same-length-5 Inv-loop μ-loop
 same-length-5 c = search needs
@@ -84,7 +84,7 @@ same-length-6 c = search needs
 returns-3 : tie.Need-returns-3 Inv-loop μ-loop
 returns-3 c =
     let l = c .before .before .loop in
-    sym (turns-end _ _ _ _ _ (l .i) _ _ _ (c .if1 .left)) ∙ l .inv .3
+    sym (iterations-end _ _ _ _ _ (l .i) _ _ _ (c .if1 .left)) ∙ l .inv .3
 
 pub advance-window-spec : {M : Type 1} → statement M
 advance-window-spec =
