@@ -11,21 +11,18 @@ use lib.Ieee.{Float, binary64, toBits, ofBits, fits}
 use lib.Ieee.Bits.{ofBits-toBits, toBits-lt}
 use borrow.Author.Tests.{eq-eqb, eqb-true}
 use Rattle.floats.specs.TotalOrder.{rank}
+use Rattle.floats.proofs.Sign.{either}
 use Rattle.diagnostics.specs.Sorting.{upper, lower, insert, insert-each, descending, All, Descending, one-if, occurrences, SameFloats, Binary64}
 use Rattle.diagnostics.proofs.Insertion.{insert-length}
 
 -- ---- what holds of every entry still does in the ordered copy
 module _ (P : Float → Type 0) where
-  pub either : (b : Bool) (x y : Float) → P x → P y → P (cond b x y)
-  either true x y p q = p
-  either false x y p q = q
-
   insert-all : (x : Float) (ys : List Float) → P x → All P ys → All P (insert x ys)
   unfolding insert
   insert-all x [] p h = (p, tt)
   insert-all x (y ∷ ys) p h =
       let b = ltb (rank y) (rank x) in
-      (either b x y p (h .0), insert-all (lower x y) ys (either b y x (h .0) p) (h .1))
+      (either P b x y p (h .0), insert-all (lower x y) ys (either P b y x (h .0) p) (h .1))
 
   insert-each-all : (done xs : List Float) → All P done → All P xs → All P (insert-each done xs)
   unfolding insert-each

@@ -23,7 +23,8 @@ use Rattle.diagnostics.specs.Dimension.{stopped, walk, kaplan-yorke}
 use Rattle.diagnostics.specs.Rates.{refused-for, dimension}
 use Rattle.diagnostics.proofs.Validation.{accepted, given, Finite, all-finite}
 use Rattle.diagnostics.proofs.Order.{descending-all, descending-length}
-use Rattle.diagnostics.proofs.Sums.{Sign, round-sign, clash, PartialSum, add-no-nan, no-significand, round-zero, sum-below, partial-none}
+use Rattle.floats.proofs.Sign.{Sign, round-sign}
+use Rattle.diagnostics.proofs.Sums.{clash, PartialSum, add-no-nan, no-significand, round-zero, sum-below, partial-none}
 
 -- ---- sum / |entry|: from 0 to 1
 abbrev UnitInterval : Float → Type 0

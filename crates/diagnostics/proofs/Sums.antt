@@ -6,43 +6,14 @@ use native.Mathlib.Nat.{le-of-eq, lt-of-lt-of-le, lt-irrefl, zero-mul, mul-pos, 
 use native.Mathlib.Omega.{arith}
 use lib.IntN.{ℤ}
 use lib.Dec.{T, ltb, ltb→lt, lit<}
-use lib.Ieee.{Float, nan, inf, fin, binary64, low, emax, up, down, odd, units, round, sum, add, lt, isNan}
-use lib.Ieee.Fits.{up-pos, round-is}
+use lib.Ieee.{Float, nan, inf, fin, binary64, up, down, round, sum, add, lt, isNan}
+use lib.Ieee.Fits.{up-pos}
 use lib.Ieee.Exact.{HasValue, round-exact}
-use lib.Ieee.Order.{kept, drop}
 use lib.Ieee.Scale.{finite}
 use borrow.Author.Tests.{le-ltb}
 use Rattle.floats.specs.Arithmetic.{_⊕_, zero⁺}
-use Rattle.floats.proofs.Zero.{zero-not-below, positive-not-below, negative-below}
-use Rattle.diagnostics.proofs.Order.{either}
-
--- ---- a round-no-nan value has the sign that it is given
-abbrev pub Sign : Bool → Float → Type 0
-Sign s nan = ⊥
-Sign s (inf t) = t ≡ s
-Sign s (fin t m e) = t ≡ s
-
-odd-sign : (d : ℕ) (s : Bool) (q k l : ℕ) → Sign s (odd d s q k l)
-unfolding odd
-odd-sign d s zero k l = refl
-odd-sign d s (suc q) k l = refl
-
-units-sign : (s : Bool) (q k : ℕ) → Sign s (units binary64 s q k)
-unfolding units
-units-sign s q k = either (Sign s) (ltb (q * 2 ^ k) (2 ^ (low binary64 + suc (emax binary64)))) (odd 54 s q k (low binary64)) (inf s) (odd-sign 54 s q k (low binary64)) refl
-
-pub round-sign : (s : Bool) (a b : ℕ) → Sign s (round binary64 s a b)
-round-sign s a b = subst (Sign s) (sym (round-is binary64 s a b)) (units-sign s (kept 53 (a * 2 ^ 1074) b) (drop 53 (a * 2 ^ 1074) b))
-
-sign-no-nan : (s : Bool) (x : Float) → Sign s x → T (not (isNan x))
-unfolding isNan
-sign-no-nan s nan h = h
-sign-no-nan s (inf t) h = tt
-sign-no-nan s (fin t m e) h = tt
-
-refuted : (b : Bool) → (b ≡ true → ⊥) → b ≡ false
-refuted true h = absurd (h refl)
-refuted false h = refl
+use Rattle.floats.proofs.Zero.{refuted, zero-not-below, positive-not-below, negative-below}
+use Rattle.floats.proofs.Sign.{either, Sign, round-sign, sign-no-nan}
 
 sign-not-below : (x : Float) → Sign false x → lt x zero⁺ ≡ false
 unfolding lt

@@ -2,7 +2,7 @@
 use Prim.Native.Nat.{ℕ, zero, suc}
 use native.Mathlib.Omega.{arith}
 use mathlib.Core.Path.{_≡_, refl}
-use mathlib.Core.Bool.{Bool, true, false, cond, _&&_}
+use mathlib.Core.Bool.{Bool, true, false, cond}
 use borrow.Author.Tests.{lt-ltb}
 use lib.Dec.{ltb}
 use mathlib.Core.List.{List, [], _∷_, _++_}
@@ -62,8 +62,3 @@ positive-passes (suc k) h = lt-ltb 0 (suc k) (omega arith)
 
 pub zero-fails : (k : ℕ) → k ≡ 0 → ltb 0 k ≡ false
 zero-fails k e = rw e
-
--- the second of two tests decides where the first passes
-pub second-decides : (a b : Bool) → a ≡ true → b ≡ (a && b)
-second-decides true b e = refl
-second-decides false b e = let z : _≡_ {A = ℕ} 0 1 = cc in absurd (omega arith)

@@ -1,6 +1,6 @@
 -- The answer of a run: from what it carried to its end, and from the tests.
-use Prim.Native.Nat.{ℕ, zero, suc, _-_, _*_, _≤_}
-use native.Mathlib.Nat.{sub-zero, mul-le-mul-right, mul-le-mul-left, le-trans}
+use Prim.Native.Nat.{ℕ, _*_, _≤_}
+use native.Mathlib.Nat.{mul-le-mul-right, mul-le-mul-left, le-trans}
 use native.Mathlib.Omega.{arith}
 use mathlib.Core.Path.{_≡_, refl, sym, ap, _∙_}
 use mathlib.Core.List.{List, _++_}
@@ -15,6 +15,7 @@ use Rattle.error.specs.declared.Refusal.{Refusal}
 use Rattle.error.specs.declared.Outcome.{Outcome}
 use Rattle.error.specs.declared.Outcome.the-variants.{Accepted, Refused}
 use Rattle.floats.specs.Arithmetic.{_⊗_}
+use Rattle.floats.proofs.Sets.{drop-replicate}
 use Rattle.system.specs.System.{dim}
 use Rattle.system.specs.declared.System.{System}
 use Rattle.benettin.specs.Run.{Dynamics, Course, ok, answer, as-float, initial, course, run-tests, run, run-past}
@@ -27,11 +28,6 @@ use Rattle.estimator.specs.Progress.{run-state, status, Recorded, record
 use Rattle.estimator.specs.Start.{Closed, closed, closing, refused-estimate}
 use Rattle.estimator.specs.declared.Progress.{Progress}
 
-drop-replicate : (k n : ℕ) → k ≤ n → _≡_ {A = List ℕ} (drop k (replicate n 0)) (replicate (n - k) 0)
-drop-replicate zero n h = rw sub-zero
-drop-replicate (suc k) zero h = absurd (omega arith)
-drop-replicate (suc k) (suc n) h = let z : suc n - suc k ≡ n - k = omega arith in rw z (drop-replicate k n (omega arith))
-
 -- ---- the end of a run
 
 module _ (S : System) (m : List Float) (h : Float) (n k W : ℕ) (x t norms : List Float) (p : Progress) (rows es fs : List Float) (T : Course) (rows′ es′ fs′ : List Float) (r : SpectrumEstimate)
@@ -42,7 +38,7 @@ module _ (S : System) (m : List Float) (h : Float) (n k W : ℕ) (x t norms : Li
   faint-is : p .faint ≡ sixteen (take k (p .faint))
   faint-is =
       let z : length (take k (p .faint)) ≡ k = length-take-le k (p .faint) (omega arith) in
-      sym (take-append-drop k (p .faint)) ∙ ap (λ (z : List ℕ). take k (p .faint) ++ z) (f ∙ drop-replicate k 16 l ∙ rw z)
+      sym (take-append-drop k (p .faint)) ∙ ap (λ (z : List ℕ). take k (p .faint) ++ z) (f ∙ drop-replicate {A = ℕ} 0 k 16 l ∙ rw z)
 
   ended-at : (v : Outcome) → recorded rows′ (status v (run-state (dim S) k x t norms p)) ≡ written rows 0 T → closed r es′ fs′ ≡ closing v (h ⊗ as-float n) k W es fs x p
       → observed r rows′ es′ fs′ ≡ outputs W rows es fs (answer M W k (T .rows) (T .end))

@@ -1,13 +1,11 @@
 -- What comes before the first measured window.
-use Prim.Native.Nat.{ℕ, zero, suc, _+_, _*_, _≤_, _<_}
+use Prim.Native.Nat.{ℕ, zero, suc, _*_, _≤_, _<_}
 use native.Mathlib.Nat.{mul-le-mul-right, mul-le-mul-left, le-trans}
-use native.Mathlib.Numerals.{add-one}
 use native.Mathlib.Omega.{arith}
 use mathlib.Core.Path.{_≡_, refl, sym, ap, _∙_}
-use mathlib.Core.List.{List, _++_, append-nil}
-use lib.ListN.{length, take, drop, getD, set, replicate, drop-of-length-le}
-use lib.Seq.{take-all, drop-cons, take-suc-set, append-snoc}
-use lib.Ieee.{Float, nan}
+use mathlib.Core.List.{List}
+use lib.ListN.{length, getD, replicate}
+use lib.Ieee.{Float}
 use mathlib.Core.Bool.{true, false}
 use lib.Ieee.Scale.{finite}
 use Rattle.error.specs.declared.LyapunovError.{LyapunovError}
@@ -110,17 +108,6 @@ module _ (S : System) (m : List Float) (h : Float) (n w k : ℕ) (x t₀ norms :
 pub course-from : (M : Dynamics) (s w n : ℕ) (c : RunState) (rows : List Float) (o : Status) → o ≡ warmed-up M s w c → written rows 0 (measured-from M s n o) ≡ written rows 0 (course M s w s n c)
 unfolding course
 course-from M s w n c rows o e = rw e
-
--- ---- a copy
-
-pub copy-next : (out from : List Float) (i : ℕ) → i < length out → i < length from
-    → take i out ++ drop i from ≡ take (i + 1) (set out i (getD from i nan)) ++ drop (i + 1) from
-copy-next out from i h g =
-    let z = getD from i nan in
-    rw (add-one, take-suc-set out i z h, drop-cons from i nan g) (sym (append-snoc (take i out) z (drop (suc i) from)))
-
-pub copy-end : (out from : List Float) (i : ℕ) → length out ≤ i → length from ≤ i → take i out ++ drop i from ≡ out
-copy-end out from i h g = rw (drop-of-length-le from g, append-nil) (take-all i out h)
 
 -- ---- as the code has it
 

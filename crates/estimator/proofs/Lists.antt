@@ -1,20 +1,17 @@
--- Loops that go over lists entry by entry: one more iteration, and the end.
+-- The faint counts, entry by entry: one more entry, and how far a count goes.
 use Prim.Native.Nat.{ℕ, zero, suc, _+_, _≤_, _<_}
 use native.Mathlib.Numerals.{add-one}
 use native.Mathlib.Omega.{arith}
 use mathlib.Core.Path.{_≡_, sym, ap, _∙_}
-use mathlib.Core.List.{List, [], _∷_, _++_, map, append-nil}
-use lib.ListN.{length, take, drop, getD, set, drop-of-length-le, length-set}
-use lib.Seq.{drop-cons, take-suc-set, append-snoc, take-all, getD-set-other}
+use mathlib.Core.List.{List, [], _∷_, _++_}
+use lib.ListN.{length, take, drop, getD, set, length-set}
+use lib.Seq.{getD-set-other}
 use lib.Ieee.{Float, nan}
 use mathlib.Core.Bool.{Bool, true, false, cond}
 use Rattle.floats.specs.Vector.{updated}
 use Rattle.floats.proofs.Updated.{updated-next, updated-same}
 use Rattle.gram_schmidt.specs.GramSchmidt.{euclidean}
-use Rattle.benettin.specs.Run.{row}
 use Rattle.estimator.specs.Progress.{counted}
-
--- ---- the faint counts
 
 cond-more : (b : Bool) (n : ℕ) → cond b (suc n) n ≤ n + 1
 cond-more true n = omega arith
@@ -27,7 +24,7 @@ counted-more (x ∷ xs) [] i = omega arith
 counted-more (x ∷ xs) (y ∷ ys) zero = cond-more (euclidean .faint y) x
 counted-more (x ∷ xs) (y ∷ ys) (suc i) = counted-more xs ys i
 
--- a iteration of the count: a faint mark, and one that is not
+-- one more entry: a faint one, and one that is not
 module _ (xs : List ℕ) (ys : List Float) (i : ℕ) (h : i < length xs) (g : i < length ys) where
   pub counted-yes : (zs : List ℕ) → euclidean .faint (getD ys i nan) ≡ true → zs ≡ set xs i (getD xs i 0 + 1)
       → (length zs ≡ length xs) × (take i xs ++ updated counted (drop i xs) (drop i ys) ≡ take (i + 1) zs ++ updated counted (drop (i + 1) zs) (drop (i + 1) ys)) × ((j : ℕ) → i + 1 ≤ j → getD zs j 0 ≡ getD xs j 0)
@@ -41,14 +38,3 @@ module _ (xs : List ℕ) (ys : List Float) (i : ℕ) (h : i < length xs) (g : i 
   counted-no zs f e =
       let t : counted (getD xs i 0) (getD ys i nan) ≡ getD xs i 0 = rw f in
       (ap length e, updated-same counted xs ys i 0 nan h g t ∙ rw e, λ j l. ap (λ (w : List ℕ). getD w j 0) e)
-
--- ---- a slice filled with other values
-
-pub fill-next : (f : Float → Float) (row values : List Float) (i : ℕ) → i < length row → i < length values
-    → take i row ++ map f (drop i values) ≡ take (i + 1) (set row i (f (getD values i nan))) ++ map f (drop (i + 1) values)
-fill-next f row values i h g =
-    let z = f (getD values i nan) in
-    rw (add-one, take-suc-set row i z h, drop-cons values i nan g) (sym (append-snoc (take i row) z (map f (drop (suc i) values))))
-
-pub fill-end : (f : Float → Float) (row values : List Float) (i : ℕ) → length row ≤ i → length values ≤ i → take i row ++ map f (drop i values) ≡ row
-fill-end f row values i h g = rw (drop-of-length-le values g, append-nil) (take-all i row h)

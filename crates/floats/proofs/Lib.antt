@@ -1,5 +1,6 @@
 -- Laws that several crates cite, one subject a file.
 pub mod Zero
+pub mod Sign
 pub mod Finite
 pub mod Magnitude
 pub mod Units
@@ -8,6 +9,6 @@ pub mod Pattern
 pub mod OneForm
 pub mod Ordinary
 pub mod Sets
-pub mod Fill
 pub mod Updated
+pub mod Fill
 pub mod Vector

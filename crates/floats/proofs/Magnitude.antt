@@ -1,12 +1,12 @@
 -- The code's magnitude, pattern and rank of one float.
 use mathlib.Core.Path.{_≡_, refl, sym, ap, _∙_}
-use mathlib.Core.Bool.{Bool, true, false, not, true≢false, false≢true}
+use mathlib.Core.Bool.{Bool, true, false, true≢false, false≢true}
 use Prim.Native.Nat.{ℕ, zero, suc, _+_, _-_, _*_, _^_, _≤_, _<_}
 use native.Mathlib.Omega.{arith}
 use lib.IntN.{ℤ, pos, negsuc}
 use lib.Dec.{T, eqb→eq}
-use lib.Ieee.{Float, nan, inf, fin, binary64, fits, isNan, eq, lt, ne, neg, ofBits, toBits}
-use lib.Ieee.Compare.{differs-from-itself, nan-differs}
+use lib.Ieee.{Float, nan, inf, fin, binary64, fits, eq, lt, ne, neg, ofBits, toBits}
+use lib.Ieee.Compare.{differs-from-itself}
 use borrow.Author.Tests.{lt-ltb, le-ltb}
 use Rattle.floats.specs.Arithmetic.{zero⁺}
 use Rattle.floats.specs.Magnitude.{magnitude}
@@ -14,12 +14,6 @@ use Rattle.floats.specs.TotalOrder.{rank}
 use Rattle.floats.proofs.Zero.{of-true, zero-is, zero-equal, nonzero-differs, positive-not-below, minus-infinity-below, negative-below}
 
 -- ---- a pattern
-pub no-nan : (x : Float) → ne x x ≡ false → T (not (isNan x))
-unfolding isNan
-no-nan nan h = absurd (true≢false (sym nan-differs ∙ h))
-no-nan (inf s) h = tt
-no-nan (fin s m e) h = tt
-
 nan-pattern : 0x7ff8_0000_0000_0000 ≡ toBits binary64 nan
 unfolding toBits
 nan-pattern = refl

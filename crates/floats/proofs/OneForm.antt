@@ -1,23 +1,17 @@
 -- One value of the format has one form: two values with the sign clear that are the same number are the same.
-use mathlib.Core.Path.{_≡_, refl, sym, ap, _∙_}
+use mathlib.Core.Path.{_≡_, sym, ap, _∙_}
 use mathlib.Core.Bool.{true, false}
-use Prim.Native.Nat.{ℕ, _+_, _-_, _*_, _/_, _^_, _<_}
+use Prim.Native.Nat.{ℕ, _*_, _/_, _<_}
 use native.Mathlib.Nat.{mul-right-comm}
-use lib.IntN.{ℤ}
 use lib.Dec.{T, lt→ltb}
-use lib.Ieee.{Float, nan, inf, fin, binary64, hid, up, down, size, fits, lt, ofBits, toBits}
+use lib.Ieee.{Float, nan, inf, fin, binary64, up, down, fits, lt, ofBits}
 use lib.Ieee.Fits.{down-pos}
 use lib.Ieee.Bits.{ofBits-toBits}
 use lib.Ieee.Nearest.{div-same}
 use lib.Ieee.Positive.{num, den}
 use Rattle.floats.specs.Magnitude.{sign-clear}
-
-bits-of : ℕ → ℕ
-bits-of n = 0 + (size n - 53) * hid binary64 + n / 2 ^ (size n - 53)
-
-bits-are : (m : ℕ) (e : ℤ) → toBits binary64 (fin false m e) ≡ bits-of (m * up e * 2 ^ 1074 / down e)
-unfolding toBits bits-of
-bits-are m e = refl
+use Rattle.floats.proofs.Units.{U}
+use Rattle.floats.proofs.Pattern.{units-pattern, pattern-of}
 
 pub same-value : (r q : Float) → T (fits binary64 r) → T (fits binary64 q) → T (sign-clear r) → T (sign-clear q) → num r * den q ≡ num q * den r → r ≡ q
 same-value nan q f g p t e = absurd p
@@ -27,11 +21,10 @@ same-value (fin false m d) nan f g p t e = absurd t
 same-value (fin false m d) (inf s) f g p t e = absurd t
 same-value (fin false m d) (fin true n c) f g p t e = absurd t
 same-value (fin false m d) (fin false n c) f g p t e =
-    let U = 2 ^ 1074 in
     let k : m * up d * U / down d ≡ n * up c * U / down c =
     div-same (m * up d * U) (down d) (n * up c * U) (down c) (down-pos d) (down-pos c)
     (mul-right-comm (m * up d) U (down c) ∙ ap (λ (z : ℕ). z * U) e ∙ mul-right-comm (n * up c) (down d) U) in
-    sym (ofBits-toBits binary64 (fin false m d) f) ∙ ap (ofBits binary64) (bits-are m d ∙ ap bits-of k ∙ sym (bits-are n c)) ∙ ofBits-toBits binary64 (fin false n c) g
+    sym (ofBits-toBits binary64 (fin false m d) f) ∙ ap (ofBits binary64) (pattern-of m d ∙ ap units-pattern k ∙ sym (pattern-of n c)) ∙ ofBits-toBits binary64 (fin false n c) g
 
 -- ---- the order of two such values
 pub lt-of : (r q : Float) → T (sign-clear r) → T (sign-clear q) → num r * den q < num q * den r → T (lt r q)

@@ -1,17 +1,28 @@
--- The value of a bit pattern with the sign clear, in units of the format's smallest value.
+-- Bit patterns with the sign clear, and their values in units of the format's smallest one.
 use Prim.Native.Nat.{ℕ, zero, suc, _+_, _-_, _*_, _/_, _%_, _^_, _≤_, _<_}
 use native.Mathlib.Nat.{zero-add, eq-or-lt-of-le, mul-assoc, mul-comm, mod-eq-of-lt, pow-suc}
 use native.Mathlib.Omega.{arith}
 use mathlib.Core.Path.{_≡_, refl, sym, ap, _∙_, subst}
 use mathlib.Core.Logic.{_⊎_, inl, inr}
 use mathlib.Core.Bool.{Bool, false, not, cond}
-use lib.Dec.{T, leb, ltb, eqb, not-T, eqb→eq, lit<}
-use lib.Arith.{lt→nleb, le→nltb, digits-lt, digits-div, digits-mod}
-use lib.Ieee.{Float, nan, inf, binary64, odd, ofFields, ofBits, nanBits}
+use borrow.Author.Tests.{le-ltb}
+use lib.Dec.{T, leb, eqb, not-T, eqb→eq, lit<}
+use lib.Arith.{lt→nleb, digits-lt, digits-div, digits-mod}
+use lib.IntN.{ℤ}
+use lib.Ieee.{Float, nan, inf, fin, binary64, up, down, size, odd, ofFields, ofBits, toBits, nanBits}
 use lib.Ieee.Bits.{is-false, cond-no, nanBits-is, nanBits-above}
 use lib.Ieee.Exact.{HasValue, odd-sign}
 use Rattle.floats.proofs.Units.{U, value-no-nan}
 
+-- ---- the pattern of a value of n units with the sign clear
+abbrev pub units-pattern : ℕ → ℕ
+units-pattern n = 0 + (size n - 53) * 2 ^ 52 + n / 2 ^ (size n - 53)
+
+pub pattern-of : (m : ℕ) (e : ℤ) → toBits binary64 (fin false m e) ≡ units-pattern (m * up e * U / down e)
+unfolding toBits
+pattern-of m e = refl
+
+-- ---- the value of a pattern
 opened : (b : ℕ) → ofBits binary64 b ≡ ofFields binary64 (leb (2 ^ 63) b) (b % 2 ^ 63 / 2 ^ 52) (b % 2 ^ 52)
 unfolding ofBits
 opened b = refl
@@ -25,6 +36,9 @@ fields E t h l =
     ∙ ap (λ (z : ℕ). ofFields binary64 false (z / 2 ^ 52) (b % 2 ^ 52)) (mod-eq-of-lt small)
     ∙ ap (λ (z : ℕ). ofFields binary64 false z (b % 2 ^ 52)) (digits-div E l)
     ∙ ap (λ (z : ℕ). ofFields binary64 false E z) (digits-mod E l)
+
+pub one-digit-more : (a i : ℕ) → a * 2 ^ suc i ≡ a * 2 * 2 ^ i
+one-digit-more a i = ap (λ (z : ℕ). a * z) (pow-suc 2 i ∙ mul-comm (2 ^ i) 2) ∙ sym (mul-assoc a 2 (2 ^ i))
 
 normal-fields : (x t : ℕ) → suc x < 2047 → HasValue (ofFields binary64 false (suc x) t) false ((2 ^ 52 + t) * 2 ^ x) U
 unfolding ofFields
@@ -75,10 +89,7 @@ carried-value k q lo hi h = go (eq-or-lt-of-le hi)
     go (inl e) =
         subst (λ (z : ℕ). HasValue (ofBits binary64 (k * 2 ^ 52 + z)) false (z * 2 ^ k) U) (sym e)
         (subst (λ (z : ℕ). HasValue (ofBits binary64 z) false (2 ^ 53 * 2 ^ k) U) (sum-two k)
-        (subst (λ (z : ℕ). HasValue (ofBits binary64 (suc (suc k) * 2 ^ 52 + 0)) false z U) (ap (λ (z : ℕ). 2 ^ 52 * z) (pow-suc 2 k) ∙ swap (2 ^ 52) (2 ^ k)) (normal-value (suc k) 0 (in-two k h) (lit< tt))))
-      where
-        swap : (a b : ℕ) → a * (b * 2) ≡ a * 2 * b
-        swap a b = ap (λ (z : ℕ). a * z) (mul-comm b 2) ∙ sym (mul-assoc a 2 b)
+        (subst (λ (z : ℕ). HasValue (ofBits binary64 (suc (suc k) * 2 ^ 52 + 0)) false z U) (one-digit-more (2 ^ 52) k) (normal-value (suc k) 0 (in-two k h) (lit< tt))))
     go (inr l) =
         subst (λ (z : ℕ). HasValue (ofBits binary64 z) false (q * 2 ^ k) U) (sum-one k q lo)
         (subst (λ (z : ℕ). HasValue (ofBits binary64 (suc k * 2 ^ 52 + (q - 2 ^ 52))) false (z * 2 ^ k) U) (one q lo) (normal-value k (q - 2 ^ 52) (in-one k h) (less q lo l)))
@@ -87,14 +98,9 @@ carried-value k q lo hi h = go (eq-or-lt-of-le hi)
 pub no-nan-bits : (b X : ℕ) → HasValue (ofBits binary64 b) false X U → T (not (nanBits binary64 b))
 no-nan-bits b X h = subst (λ (z : Bool). T (not z)) (sym (nanBits-is binary64 b)) (value-no-nan X (ofBits binary64 b) h)
 
--- nor is one below the infinity's
-pub no-nan-under : (b : ℕ) → b < 0x7ff0_0000_0000_0000 → T (not (nanBits binary64 b))
-no-nan-under b h =
-    subst (λ (t : Bool). T (not t)) (sym (nanBits-above binary64 b ∙ ap (ltb 0x7ff0_0000_0000_0000) (mod-eq-of-lt {n = b} {m = 2 ^ 63} (more b h))))
-    (le→nltb 0x7ff0_0000_0000_0000 b (weaker b h))
-  where
-    more : (b : ℕ) → b < 0x7ff0_0000_0000_0000 → b < 2 ^ 63
-    more b h = omega arith
+-- nor is one that is not above the infinity's but for its sign, or that is below it
+pub no-nan-pattern : (u : ℕ) → u % 2 ^ 63 ≤ 0x7ff0_0000_0000_0000 → T (not (nanBits binary64 u))
+no-nan-pattern u h = subst (λ (b : Bool). T (not b)) (sym (nanBits-above binary64 u ∙ le-ltb 0x7ff0_0000_0000_0000 (u % 2 ^ 63) h)) tt
 
-    weaker : (b : ℕ) → b < 0x7ff0_0000_0000_0000 → b ≤ 0x7ff0_0000_0000_0000
-    weaker b h = omega arith
+pub no-nan-under : (b : ℕ) → b < 0x7ff0_0000_0000_0000 → T (not (nanBits binary64 b))
+no-nan-under b h = no-nan-pattern b (omega arith)

@@ -1,10 +1,10 @@
 -- Parts of a list, and runs of stores into it.
-use Prim.Native.Nat.{ℕ, zero, suc, _+_, _≤_, _<_}
-use native.Mathlib.Nat.{add-zero}
+use Prim.Native.Nat.{ℕ, zero, suc, _+_, _-_, _≤_, _<_}
+use native.Mathlib.Nat.{add-zero, sub-zero}
 use native.Mathlib.Omega.{arith}
 use mathlib.Core.Path.{_≡_, refl, sym, ap, _∙_}
 use mathlib.Core.List.{List, [], _∷_, _++_, append-assoc}
-use lib.ListN.{length, take, drop, getD, set, length-drop, take-append-drop}
+use lib.ListN.{length, take, drop, getD, set, replicate, length-drop, take-append-drop}
 use lib.Seq.{sets, sets-eq, length-sets, take-at, drop-at, take-add, length-take-le, drop-cons, drop-set-lt, take-set-le, set-comm}
 use lib.Ieee.{Float, nan}
 use Rattle.floats.specs.Vector.{part}
@@ -14,6 +14,11 @@ part-length a d l h = length-take-le d (drop a l) (rw length-drop (omega arith))
 
 pub part-cons : (a m : ℕ) (l : List Float) → a < length l → part a (suc m) l ≡ getD l a nan ∷ part (suc a) m l
 part-cons a m l h = rw (drop-cons l a nan h)
+
+pub drop-replicate {a} : {A : Type a} (x : A) (k n : ℕ) → k ≤ n → drop k (replicate n x) ≡ replicate (n - k) x
+drop-replicate x zero n h = rw sub-zero
+drop-replicate x (suc k) zero h = absurd (omega arith)
+drop-replicate x (suc k) (suc n) h = let z : suc n - suc k ≡ n - k = omega arith in rw z (drop-replicate x k n (omega arith))
 
 -- ---- a store, and a run of stores, outside of a part
 

@@ -16,6 +16,11 @@ map-take f zero l = refl
 map-take f (suc k) [] = refl
 map-take f (suc k) (x ∷ l) = ap (λ t. f x ∷ t) (map-take f k l)
 
+pub map-drop {a b} : {A : Type a} {B : Type b} (f : A → B) (k : ℕ) (l : List A) → map f (drop k l) ≡ drop k (map f l)
+map-drop f zero l = refl
+map-drop f (suc k) [] = refl
+map-drop f (suc k) (x ∷ l) = map-drop f k l
+
 pub map-at {a b} : {A : Type a} {B : Type b} (f : A → B) (l : List A) (i : ℕ) (x : A) (y : B) → i < length l → getD (map f l) i y ≡ f (getD l i x)
 map-at f [] i x y h = absurd (not-suc-le-zero h)
 map-at f (z ∷ l) zero x y h = refl

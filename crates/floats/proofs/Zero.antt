@@ -6,7 +6,7 @@ use native.Mathlib.Nat.{le-of-eq, lt-of-lt-of-le, lt-irrefl, zero-mul, mul-pos, 
 use native.Mathlib.Omega.{arith}
 use lib.IntN.{ℤ, pos}
 use lib.Dec.{T, ltb, eqb, ltb→lt, lt→ltb, eqb-refl, eqb→eq, lit<}
-use lib.Ieee.{inf, fin, binary64, up, down, eq, lt, ofBits}
+use lib.Ieee.{nan, inf, fin, binary64, up, down, eq, lt, div, ofBits}
 use lib.Ieee.Bits.{is-true}
 use lib.Ieee.Fits.{and-i, and-l, up-pos}
 use Rattle.floats.specs.Arithmetic.{zero⁺}
@@ -15,6 +15,14 @@ use Rattle.floats.specs.Arithmetic.{zero⁺}
 pub zero-is : ofBits binary64 0 ≡ zero⁺
 unfolding ofBits
 zero-is = refl
+
+pub zero-by-zero : div binary64 (ofBits binary64 0) (ofBits binary64 0) ≡ nan
+unfolding div ofBits
+zero-by-zero = refl
+
+pub refuted : (b : Bool) → (b ≡ true → ⊥) → b ≡ false
+refuted true h = absurd (h refl)
+refuted false h = refl
 
 pub of-true : {b : Bool} → b ≡ true → T b
 of-true e = subst T (sym e) tt

@@ -1,19 +1,21 @@
 -- A collapse means a squared length of 0 or one that is not finite: of a sum of squares as the code makes it, the test on the root is that test on the sum.
-use Prim.Native.Nat.{ℕ, zero, suc, _+_, _-_, _*_, _/_, _%_, _^_, _<_, compare}
-use native.Mathlib.Nat.{zero-mul, mul-pos, zero-lt-suc}
+use Prim.Native.Nat.{ℕ, zero, suc, _+_, _*_, _<_}
+use native.Mathlib.Nat.{zero-mul, mul-pos}
 use native.Mathlib.Omega.{arith}
 use mathlib.Core.Path.{_≡_, refl}
-use mathlib.Core.Bool.{Bool, true, false, not, cond, _||_}
+use mathlib.Core.Bool.{Bool, true, false, not, _||_, true≢false}
 use mathlib.Core.List.{List, [], _∷_}
 use borrow.Author.Tests.{ltb-true, le-ltb, lt-ltb, ne-eqb}
-use lib.Dec.{T, ltb}
-use lib.IntN.{ℤ, pos, negsuc}
-use lib.Ieee.{Float, nan, inf, fin, binary64, prec, emax, low, size, nearest, up, down, fits, below, level, lt, eq, le, add, mul, sum, round, units, odd}
-use lib.Ieee.Scale as Scale
+use lib.Dec.{T}
+use lib.IntN.{ℤ, negsuc}
+use lib.Ieee.{Float, nan, inf, fin, binary64, up, down, fits, below, level, lt, eq, le, add, mul, sum, round}
+use lib.Ieee.Bits.{is-true}
 use lib.Ieee.Fits.{up-pos, down-pos, add-fits, round-fits}
 use Rattle.sqrt.specs.SquareRoot.{root}
 use Rattle.sqrt.proofs.Positive.{root-large}
 use Rattle.floats.proofs.Ordinary.{ordinary}
+use Rattle.floats.proofs.Sign.{Sign, round-sign}
+use Rattle.floats.proofs.Zero.{refuted, zero-equal, nonzero-differs}
 use Rattle.gram_schmidt.specs.Orthonormalise.{collapsed}
 use Rattle.gram_schmidt.specs.GramSchmidt.{squared-length}
 use Rattle.floats.specs.Arithmetic.{zero⁺, least-normal}
@@ -26,28 +28,15 @@ unsigned nan = true
 unsigned (inf s) = not s
 unsigned (fin s m e) = not s
 
-either : (c : Bool) (x y : Float) → T (unsigned x) → T (unsigned y) → T (unsigned (cond c x y))
-either true x y p q = p
-either false x y p q = q
-
-odd-unsigned : (d q k l : ℕ) → T (unsigned (odd d false q k l))
-unfolding odd
-odd-unsigned d zero k l = tt
-odd-unsigned d (suc q) k l = tt
-
-units-unsigned : (q k : ℕ) → T (unsigned (units binary64 false q k))
-unfolding units
-units-unsigned q k =
-    either (ltb (q * 2 ^ k) (2 ^ (low binary64 + suc (emax binary64)))) (odd (suc (prec binary64)) false q k (low binary64)) (inf false)
-    (odd-unsigned (suc (prec binary64)) q k (low binary64)) tt
-
 round-unsigned : (a b : ℕ) → T (unsigned (round binary64 false a b))
-unfolding round
-round-unsigned a b =
-    let n = a * 2 ^ low binary64 in
-    let k = size (n / b) - prec binary64 in
-    let u = b * 2 ^ k in
-    units-unsigned (nearest (n / u) (compare (n % u * 2) u)) k
+round-unsigned a b = go (round binary64 false a b) (round-sign false a b)
+  where
+    go : (x : Float) → Sign false x → T (unsigned x)
+    go nan h = tt
+    go (inf false) h = tt
+    go (inf true) h = absurd (true≢false h)
+    go (fin false m e) h = tt
+    go (fin true m e) h = absurd (true≢false h)
 
 square-unsigned : (x : Float) → T (unsigned (mul binary64 x x))
 unfolding mul
@@ -86,11 +75,7 @@ strict : (s : Bool) (a b : ℕ) → below false b s a ≡ true → (below s a fa
 strict false a b h = let l : b < a = ltb-true b a h in rw (le-ltb a b (omega arith), ne-eqb a b (λ e. omega arith))
 strict true a b h = let z : _≡_ {A = ℕ} 0 1 = cc in absurd (omega arith)
 
-is-true : (b : Bool) → T b → b ≡ true
-is-true true t = refl
-is-true false t = absurd t
-
-above : (r : Float) → T (lt least-normal r) → T (Scale.finite r) → collapsed r ≡ false
+above : (r : Float) → T (lt least-normal r) → T (finite r) → collapsed r ≡ false
 unfolding collapsed lt eq le
 above nan h f = absurd h
 above (inf s) h f = absurd f
@@ -103,28 +88,14 @@ zero-low e =
     let p : 0 < 1 * up (negsuc 1021) * down e = mul-pos {m = 1 * up (negsuc 1021)} (mul-pos {m = 1} (omega arith) (up-pos (negsuc 1021))) (down-pos e) in
     rw (z, lt-ltb 0 (1 * up (negsuc 1021) * down e) p)
 
-zero-is : (e : ℤ) → eq (fin false zero e) zero⁺ ≡ true
-unfolding eq
-zero-is e =
-    let z : zero * up e * down (pos 0) ≡ 0 = rw (zero-mul, zero-mul) in
-    let y : 0 * up (pos 0) * down e ≡ 0 = zero-mul (down e) in
-    rw (z, y)
-
-more-is : (m : ℕ) (e : ℤ) → eq (fin false (suc m) e) zero⁺ ≡ false
-unfolding eq
-more-is m e =
-    let y : 0 * up (pos 0) * down e ≡ 0 = zero-mul (down e) in
-    let p : 0 < suc m * up e * down (pos 0) = mul-pos {m = suc m * up e} (mul-pos {m = suc m} (zero-lt-suc m) (up-pos e)) (down-pos (pos 0)) in
-    rw (y, ne-eqb (suc m * up e * down (pos 0)) 0 (λ z. omega arith))
-
 of-root : (q : Float) → T (unsigned q) → T (fits binary64 q) → collapsed (root q) ≡ degenerate q
 unfolding collapsed root
 of-root nan p f = refl
 of-root (inf true) p f = absurd p
 of-root (inf false) p f = refl
 of-root (fin true m e) p f = absurd p
-of-root (fin false zero e) p f = rw (zero-low e, zero-is e)
-of-root (fin false (suc m) e) p f = let r = root-large f (ordinary m e) in rw (more-is m e) (above (root (fin false (suc m) e)) (r .0) (r .1))
+of-root (fin false zero e) p f = rw (zero-low e, zero-equal false e)
+of-root (fin false (suc m) e) p f = let r = root-large f (ordinary m e) in rw (refuted (eq (fin false (suc m) e) zero⁺) (nonzero-differs false m e)) (above (root (fin false (suc m) e)) (r .0) (r .1))
 
 pub collapse-is : (w : List Float) → collapsed (root (squared-length w)) ≡ degenerate (squared-length w)
 unfolding round

@@ -5,7 +5,7 @@ use Prim.Native.Nat.{ℕ, zero, suc, _+_, _-_, _*_, _/_, _%_, _^_, _≤_, _<_}
 use native.Mathlib.Nat.{zero-lt-suc, le-trans, le-of-eq, mul-one, mul-assoc, mul-comm, mul-left-comm, eq-of-mul-eq-mul-right, le-of-mul-le-mul-right, div-one, zero-add, mod-lt, mul-div-cancel}
 use native.Mathlib.Omega.{arith}
 use native.Mathlib.Decide.{decLe}
-use lib.IntN.{ℤ, pos, negsuc, _-ℤ_}
+use lib.IntN.{pos, negsuc, _-ℤ_}
 use lib.Dec.{T, ltb, ltb→lt, lt→ltb, nltb→le}
 use lib.Pow.{pow-pos, pow-add}
 use lib.Ieee.{Float, inf, fin, binary64, up, down, size, fits, le, lt, toBits, ofBits}
@@ -14,7 +14,7 @@ use lib.Ieee.Fits.{and-l, down-pos}
 use lib.Ieee.Exact.{HasValue}
 use lib.Ieee.Positive.{num, den, value→cross, values-of-le}
 use Rattle.floats.proofs.Units.{U, few-digits}
-use Rattle.floats.proofs.Pattern.{normal-value, no-nan-under}
+use Rattle.floats.proofs.Pattern.{units-pattern, pattern-of, normal-value, no-nan-under}
 use Rattle.floats.proofs.Ordinary.{Ordinary, ordinary, ordinary-pattern}
 use Rattle.floats.specs.Arithmetic.{least-normal}
 use Rattle.ln.specs.Logarithm.{normal, moved, significand, power, Split}
@@ -35,34 +35,27 @@ power-of n e f h = go (ltb n 1023) (ltb→lt n 1023) (nltb→le n 1023)
     go false a b = mul-one (2 ^ e) ∙ ap (λ (z : ℕ). 2 ^ z) (over n e f h (b tt)) ∙ pow-add 2 f (n - 1023)
 
 -- ---- from units to the fraction
+pub last-first : (a b c u : ℕ) → a * b * c * u ≡ a * u * (b * c)
+last-first a b c u = simp (mul-assoc, mul-comm, mul-left-comm)
+
 ratio : (nz dz nm dm s u d e f : ℕ) → nz * U ≡ s * 2 ^ e * dz → nm * U ≡ s * 2 ^ f * dm → 2 ^ e * d ≡ 2 ^ f * u → nz * dm * d ≡ nm * u * dz
 ratio nz dz nm dm s u d e f p q h =
     eq-of-mul-eq-mul-right U (pow-pos 1074) (nz * dm * d) (nm * u * dz)
-    (left nz dm d U ∙ ap (λ (x : ℕ). x * (dm * d)) p ∙ mid s (2 ^ e) dz dm d ∙ ap (λ (x : ℕ). s * x * (dz * dm)) h ∙ mid₂ s (2 ^ f) u dz dm ∙ ap (λ (x : ℕ). x * (u * dz)) (sym q) ∙ right nm u dz U)
+    (last-first nz dm d U ∙ ap (λ (x : ℕ). x * (dm * d)) p ∙ mid s (2 ^ e) dz dm d ∙ ap (λ (x : ℕ). s * x * (dz * dm)) h ∙ mid₂ s (2 ^ f) u dz dm ∙ ap (λ (x : ℕ). x * (u * dz)) (sym q) ∙ sym (last-first nm u dz U))
   where
-    left : (a b c u : ℕ) → a * b * c * u ≡ a * u * (b * c)
-    left a b c u = simp (mul-assoc, mul-comm, mul-left-comm)
-
     mid : (s x dz dm d : ℕ) → s * x * dz * (dm * d) ≡ s * (x * d) * (dz * dm)
     mid s x dz dm d = simp (mul-assoc, mul-comm, mul-left-comm)
 
     mid₂ : (s x u dz dm : ℕ) → s * (x * u) * (dz * dm) ≡ s * x * dm * (u * dz)
     mid₂ s x u dz dm = simp (mul-assoc, mul-comm, mul-left-comm)
 
-    right : (a u d v : ℕ) → a * v * (u * d) ≡ a * u * d * v
-    right a u d v = simp (mul-assoc, mul-comm, mul-left-comm)
-
 -- ---- a normal value's pattern is 2 ^ 52 at least
-pattern-at : (n : ℕ) → 2 ^ 52 ≤ n → 2 ^ 52 ≤ 0 + (size n - 53) * 2 ^ 52 + n / 2 ^ (size n - 53)
+pattern-at : (n : ℕ) → 2 ^ 52 ≤ n → 2 ^ 52 ≤ units-pattern n
 pattern-at n h = go (size n - 53)
   where
     go : (k : ℕ) → 2 ^ 52 ≤ 0 + k * 2 ^ 52 + n / 2 ^ k
     go zero = le-trans h (le-of-eq (sym (zero-add (n / 1) ∙ div-one n)))
     go (suc k) = omega arith
-
-opened : (m : ℕ) (e : ℤ) → toBits binary64 (fin false m e) ≡ 0 + (size (m * up e * U / down e) - 53) * 2 ^ 52 + m * up e * U / down e / 2 ^ (size (m * up e * U / down e) - 53)
-unfolding toBits
-opened m e = refl
 
 pattern-ge : {z : Float} → T (fits binary64 z) → Ordinary z → T (le least-normal z) → 2 ^ 52 ≤ toBits binary64 z
 pattern-ge f (ordinary m e) l =
@@ -71,7 +64,7 @@ pattern-ge f (ordinary m e) l =
     let X = d .0 * 2 ^ d .1 in
     let n : suc m * up e * U / down e ≡ X = ap (λ (y : ℕ). y / down e) (d .3 .1) ∙ mul-div-cancel X (down-pos e) in
     let big : 2 ^ 52 ≤ X = le-of-mul-le-mul-right (values-of-le least-normal z (2 ^ 52) U X U tt (lt→ltb 0 (suc m) (zero-lt-suc m)) (refl, refl) (d .3) l) (pow-pos 1074) in
-    subst (λ (b : ℕ). 2 ^ 52 ≤ b) (sym (opened (suc m) e ∙ ap (λ (y : ℕ). 0 + (size y - 53) * 2 ^ 52 + y / 2 ^ (size y - 53)) n)) (pattern-at X big)
+    subst (λ (b : ℕ). 2 ^ 52 ≤ b) (sym (pattern-of (suc m) e ∙ ap units-pattern n)) (pattern-at X big)
 
 -- ---- the two cases: the exponent's field of m is 1023, or 1022 where the digits t reach 6a09e
 pub record Fields (b : ℕ) : Type 0 where

@@ -18,6 +18,7 @@ use Rattle.floats.proofs.Units.{U, value-clear}
 use Rattle.floats.proofs.OneForm.{same-value}
 use Rattle.floats.proofs.Pattern.{normal-value}
 use Rattle.ln.specs.Logarithm.{Split}
+use Rattle.ln.proofs.Split.{last-first}
 
 -- ---- m is Y * 2 ^ 1021 units, with Y from C up to below 2 * C
 abbrev C : ℕ
@@ -104,16 +105,10 @@ ordered (negsuc a) (negsuc b) = elim (natural a b) [
 lean : (nz dz nm dm Y P u d : ℕ) → 0 < dm → nz * dm * d ≡ nm * u * dz → nm * U ≡ Y * P * dm → nz * U * d ≡ Y * P * u * dz
 lean nz dz nm dm Y P u d D w v =
     eq-of-mul-eq-mul-right dm D (nz * U * d) (Y * P * u * dz)
-    (one nz U d dm ∙ ap (λ (x : ℕ). x * U) w ∙ two nm u dz U ∙ ap (λ (x : ℕ). x * (u * dz)) v ∙ three (Y * P) dm u dz)
+    (one nz U d dm ∙ ap (λ (x : ℕ). x * U) w ∙ last-first nm u dz U ∙ ap (λ (x : ℕ). x * (u * dz)) v ∙ sym (last-first (Y * P) u dz dm))
   where
     one : (a b c e : ℕ) → a * b * c * e ≡ a * e * c * b
     one a b c e = simp (mul-assoc, mul-comm, mul-left-comm)
-
-    two : (a b c e : ℕ) → a * b * c * e ≡ a * e * (b * c)
-    two a b c e = simp (mul-assoc, mul-comm, mul-left-comm)
-
-    three : (a b c e : ℕ) → a * b * (c * e) ≡ a * c * e * b
-    three a b c e = simp (mul-assoc, mul-comm, mul-left-comm)
 
 joint : (N Y W P u d s e dz : ℕ) → 0 < P → 0 < dz → N * d ≡ Y * P * u * dz → N * e ≡ W * P * s * dz → Y * (u * e) ≡ W * (s * d)
 joint N Y W P u d s e dz PP D p q =

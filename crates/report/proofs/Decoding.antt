@@ -1,18 +1,18 @@
 -- Floats from bytes: a turn and the end of the loops that read a number and that decode, and the float of a pattern.
 use mathlib.Core.Path.{_≡_, refl, sym, ap, _∙_, subst}
-use mathlib.Core.Bool.{Bool, true, not, false≢true}
+use mathlib.Core.Bool.{true, false≢true}
 use mathlib.Core.List.{List, [], _∷_, _++_, append-nil, append-assoc}
 use Prim.Native.Nat.{ℕ, suc, _+_, _-_, _*_, _%_, _^_, _≤_, _<_}
 use native.Mathlib.Nat.{lt-of-lt-of-le}
 use native.Mathlib.Numerals.{add-one}
 use native.Mathlib.Omega.{arith}
-use lib.Dec.{T}
 use lib.Pow.{pow-add, pow-mono}
 use lib.ListN.{length, take, drop, getD, set}
 use lib.Seq.{drop-cons, take-suc-set, take-all, drop-drop}
-use lib.Ieee.{Float, nan, inf, fin, binary64, ofBits, div, nanBits, isNan}
+use lib.Ieee.{Float, nan, inf, fin, binary64, ofBits, div, isNan}
 use lib.Ieee.Bits.{nanBits-is, nanBits-above}
-use borrow.Author.Tests.{lt-ltb, le-ltb}
+use borrow.Author.Tests.{lt-ltb}
+use Rattle.floats.proofs.Zero.{zero-by-zero}
 use Rattle.report.specs.Bytes.{little-endian, decoded}
 
 -- ---- a number of eight bytes, read from the last
@@ -51,18 +51,11 @@ below-next n b i h k =
     go w h = omega arith
 
 -- ---- the float of a pattern
-pub no-nan-pattern : (u : ℕ) → u % 2 ^ 63 ≤ 0x7ff0_0000_0000_0000 → T (not (nanBits binary64 u))
-no-nan-pattern u h = subst (λ (b : Bool). T (not b)) (sym (nanBits-above binary64 u ∙ le-ltb 0x7ff0_0000_0000_0000 (u % 2 ^ 63) h)) tt
-
 is-nan : (x : Float) → isNan x ≡ true → x ≡ nan
 unfolding isNan
 is-nan nan h = refl
 is-nan (inf s) h = absurd (false≢true h)
 is-nan (fin s m e) h = absurd (false≢true h)
-
-zero-by-zero : div binary64 (ofBits binary64 0) (ofBits binary64 0) ≡ nan
-unfolding div ofBits
-zero-by-zero = refl
 
 pub nan-pattern : (u : ℕ) → 0x7ff0_0000_0000_0000 < u % 2 ^ 63 → div binary64 (ofBits binary64 0) (ofBits binary64 0) ≡ ofBits binary64 u
 nan-pattern u h = zero-by-zero ∙ sym (is-nan (ofBits binary64 u) (sym (nanBits-is binary64 u) ∙ nanBits-above binary64 u ∙ lt-ltb 0x7ff0_0000_0000_0000 (u % 2 ^ 63) h))

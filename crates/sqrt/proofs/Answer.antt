@@ -2,7 +2,7 @@
 use mathlib.Core.Path.{_≡_, refl, sym, ap, _∙_, subst}
 use mathlib.Core.Bool.{true, false, not, true≢false}
 use Prim.Native.Nat.{ℕ, zero, suc, _+_, _-_, _*_, _/_, _%_, _^_, _≤_, _<_}
-use native.Mathlib.Nat.{div-add-mod', mod-lt, mod-eq-of-lt, lt-of-not-le, not-le-of-lt, le-trans, le-of-eq, lt-of-lt-of-le, lt-of-le-of-lt, lt-irrefl, mul-assoc, mul-comm, mul-left-comm, mul-right-comm, mul-one, zero-mul, mul-pos, mul-le-mul-left, mul-le-mul-right, mul-lt-mul-of-pos-right, eq-of-mul-eq-mul-right, pow-suc}
+use native.Mathlib.Nat.{div-add-mod', mod-lt, mod-eq-of-lt, lt-of-not-le, not-le-of-lt, le-trans, le-of-eq, lt-of-lt-of-le, lt-of-le-of-lt, lt-irrefl, mul-assoc, mul-left-comm, mul-right-comm, mul-one, zero-mul, mul-pos, mul-le-mul-left, mul-le-mul-right, mul-lt-mul-of-pos-right, eq-of-mul-eq-mul-right}
 use native.Mathlib.Omega.{arith}
 use lib.Dec.{T, lit≤}
 use lib.Pow.{pow-pos, pow-add, pow-mono, shl-lt}
@@ -16,8 +16,8 @@ use Rattle.sqrt.specs.SquareRoot.{root, Scaled, Closest}
 use Rattle.sqrt.proofs.Whole.{RootOf}
 use Rattle.floats.proofs.Units.{U, few-digits}
 use Rattle.sqrt.proofs.Unique.{only-one}
-use Rattle.sqrt.proofs.Meets.{closest-at, square-cancel, root-is}
-use Rattle.floats.proofs.Pattern.{carried-value, no-nan-bits, normal-value, subnormal-value}
+use Rattle.sqrt.proofs.Meets.{closest-at, square-cancel, pred-of, root-is}
+use Rattle.floats.proofs.Pattern.{one-digit-more, carried-value, no-nan-bits, normal-value, subnormal-value}
 
 -- ---- from a partial root to the whole root
 pub root-of-partial : (s r n : ℕ) → s * s + r ≡ n → r ≤ 2 * s → RootOf s n
@@ -69,9 +69,6 @@ low-end s P e = omega arith
 high-end : (s P : ℕ) → (s + 1) / 2 ≡ suc P → s + 1 ≤ 2 * P + 3
 high-end s P e = omega arith
 
-pred-is : (q : ℕ) → 2 ^ 52 ≤ q → q ≡ suc (q - 1)
-pred-is q h = omega arith
-
 pred-half : (p : ℕ) → 900 ≤ p → p / 2 ≡ suc (p / 2 - 1)
 pred-half p h = omega arith
 
@@ -110,7 +107,7 @@ module _ (a p s : ℕ) (alo : 2 ^ 52 ≤ a) (plo : 900 ≤ p) (phi : p < 4000) (
       let ie : p / 2 ≡ suc i = pred-half p plo in
       let q = (s + 1) / 2 in
       let P = q - 1 in
-      let qe : q ≡ suc P = pred-is q (half-lo s s-lo) in
+      let qe : q ≡ suc P = pred-of q (half-lo s s-lo) in
       let t = 2 ^ i in
       let n : X * U ≡ a * (1 + p % 2) * 2 ^ 54 * (t * t) = e ∙ scaled-number a p i ie in
       closest-at x (ofBits binary64 (answer p s)) X P i b (j + 1074) (s * t) ((s + 1) * t) v form few
@@ -121,10 +118,7 @@ module _ (a p s : ℕ) (alo : 2 ^ 52 ≤ a) (plo : 900 ≤ p) (phi : p < 4000) (
       (mul-le-mul-right t (high-end s P qe))
       (le-trans (le-of-eq (squared s t)) (le-trans (mul-le-mul-right (t * t) (is .0)) (le-of-eq (sym n))))
       (lt-of-le-of-lt (le-of-eq n) (lt-of-lt-of-le (mul-lt-mul-of-pos-right (is .1) (mul-pos (pow-pos i) (pow-pos i))) (le-of-eq (sym (squared (s + 1) t)))))
-      (λ g. subst (λ (z : ℕ). z * 2 ^ suc i ≤ s * t) g (le-trans (le-of-eq (ap (λ (z : ℕ). 2 ^ 52 * z) (pow-suc 2 i) ∙ swap (2 ^ 52) t)) (mul-le-mul-right t s-lo)))
-    where
-      swap : (a b : ℕ) → a * (b * 2) ≡ a * 2 * b
-      swap a b = ap (λ (z : ℕ). a * z) (mul-comm b 2) ∙ sym (mul-assoc a 2 b)
+      (λ g. subst (λ (z : ℕ). z * 2 ^ suc i ≤ s * t) g (le-trans (le-of-eq (one-digit-more (2 ^ 52) i)) (mul-le-mul-right t s-lo)))
 
   pub scaled-law : (x : Float) → T (fits binary64 x) → Scaled a p x → ofBits binary64 (answer p s) ≡ root x
   scaled-law nan f h = absurd (h .0)

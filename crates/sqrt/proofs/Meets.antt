@@ -17,7 +17,7 @@ use lib.Ieee.Nearest.{closest}
 use lib.Ieee.Order.{drop, kept}
 use lib.Ieee.Scale.{round-val}
 use Rattle.sqrt.specs.SquareRoot.{root, whole-root, Closest, IsRoot}
-use Rattle.sqrt.proofs.Whole.{RootOf, whole-root-is}
+use Rattle.sqrt.proofs.Whole.{RootOf, square-even, whole-root-is}
 use Rattle.sqrt.proofs.Closest.{closest-of}
 use Rattle.floats.proofs.Units.{U, few-digits, under-end-of, some-of}
 use Rattle.floats.proofs.Rounding.{half-away}
@@ -37,9 +37,6 @@ module _ (P i lo hi N : ℕ) where
       go : (P t : ℕ) → suc P * (t * 2) + (suc P * (t * 2) + t * 2) ≡ 2 * ((2 * P + 3) * t)
       go P t = simp (suc-mul, add-mul, mul-assoc, mul-comm, mul-left-comm) (omega arith)
 
-four-squares : (a : ℕ) → 2 * a * (2 * a) ≡ 4 * (a * a)
-four-squares a = simp (mul-assoc, mul-left-comm) (omega arith)
-
 four-lt : (a b : ℕ) → a < b → 4 * a < 4 * b
 four-lt a b h = omega arith
 
@@ -52,8 +49,8 @@ closest-at x r X P i a v lo hi vx form few vr f big l h ll hh edge =
     let B = (2 * P + 3) * 2 ^ i in
     let strict : A * A < X * U = lt-of-le-ne (le-trans (mul-le-mul l l) ll) (λ e. no-tie P i a v few big (e ∙ form)) in
     closest-of x r X P (suc i) vx vr f big
-    (lt-of-le-of-lt (le-of-eq (ap (λ (z : ℕ). z * z) (sides P i lo hi 0) ∙ four-squares A)) (four-lt (A * A) (X * U) strict))
-    (lt-of-lt-of-le (four-lt (X * U) (B * B) (lt-of-lt-of-le hh (mul-le-mul h h))) (le-of-eq (sym (ap (λ (z : ℕ). z * z) (sides-up P i lo hi 0) ∙ four-squares B))))
+    (lt-of-le-of-lt (le-of-eq (ap (λ (z : ℕ). z * z) (sides P i lo hi 0) ∙ square-even A)) (four-lt (A * A) (X * U) strict))
+    (lt-of-lt-of-le (four-lt (X * U) (B * B) (lt-of-lt-of-le hh (mul-le-mul h h))) (le-of-eq (sym (ap (λ (z : ℕ). z * z) (sides-up P i lo hi 0) ∙ square-even B))))
     (λ e. le-trans (mul-le-mul (edge e) (edge e)) ll)
 
 -- ---- squares
@@ -67,9 +64,6 @@ module _ (S : ℕ) where
 
   abbrev c : ℕ
   c = 2 ^ 1075
-
-  c-is : c ≡ 2 * U
-  c-is = refl
 
   whole-part : n / c ≡ S
   whole-part = ap (λ (z : ℕ). z / c) (add-mul (2 * S) 1 U ∙ ap (λ (z : ℕ). z + 1 * U) (mul-assoc 2 S U ∙ mul-left-comm 2 S U) ∙ ap (λ (z : ℕ). S * c + z) (one-mul U)) ∙ digits-div S (lit< tt)
@@ -111,7 +105,7 @@ high-side P H S QH PH e h = omega arith
 above-half : (Q : ℕ) → 2 ^ 53 < 2 * Q + 1 → 2 ^ 52 ≤ Q
 above-half Q h = omega arith
 
-pred-of : (Q : ℕ) → 2 ^ 52 ≤ Q → Q ≡ suc (Q - 1)
+pub pred-of : (Q : ℕ) → 2 ^ 52 ≤ Q → Q ≡ suc (Q - 1)
 pred-of Q h = omega arith
 
 small-grid : (g t S B : ℕ) → 2 * g ≤ 2 * S + 1 + t → t ≤ S → S < B → g < 4 * B

@@ -8,12 +8,8 @@ use lib.Ieee.{Float, nan, inf, fin, binary64, fits, lt, ne, div, ofBits, toBits}
 use lib.Ieee.Compare.{differs-from-itself}
 use Rattle.floats.specs.Arithmetic.{zero⁺}
 use Rattle.floats.proofs.Ordinary.{ordinary, ordinary-pattern}
-use Rattle.floats.proofs.Zero.{zero-is, of-true, zero-not-below, positive-not-below, infinity-not-below, minus-infinity-below, negative-below}
+use Rattle.floats.proofs.Zero.{zero-is, zero-by-zero, of-true, zero-not-below, positive-not-below, infinity-not-below, minus-infinity-below, negative-below}
 use Rattle.sqrt.specs.SquareRoot.{root}
-
-pub no-number : div binary64 (ofBits binary64 0) (ofBits binary64 0) ≡ nan
-unfolding div ofBits
-no-number = refl
 
 pub nan-root : (x : Float) → ne x x ≡ true → x ≡ root x
 unfolding root
@@ -30,7 +26,7 @@ negative-root-at (fin true (suc m) e) h = refl
 negative-root-at (fin false (suc m) e) h = absurd (positive-not-below (suc m) e h)
 
 pub negative-root : (x : Float) → lt x (ofBits binary64 0) ≡ true → div binary64 (ofBits binary64 0) (ofBits binary64 0) ≡ root x
-negative-root x h = no-number ∙ negative-root-at x (ap (lt x) (sym zero-is) ∙ h)
+negative-root x h = zero-by-zero ∙ negative-root-at x (ap (lt x) (sym zero-is) ∙ h)
 
 -- what is not below zero, and whose pattern is not one of an ordinary value
 pub own-root : (x : Float) → T (fits binary64 x) → (0 < toBits binary64 x → 0x7ff0_0000_0000_0000 ≤ toBits binary64 x) → lt x (ofBits binary64 0) ≡ false → x ≡ root x

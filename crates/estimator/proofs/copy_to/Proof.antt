@@ -5,7 +5,8 @@ use Prim.Native.Nat.{_-_, _≤_}
 use mathlib.Core.Path.{_≡_, refl, sym, _∙_}
 use mathlib.Core.List.{_++_}
 use lib.ListN.{length, take, drop, length-set}
-use Rattle.estimator.proofs.Draws.{copy-next, copy-end}
+use lib.Ieee.{nan}
+use Rattle.floats.proofs.Fill.{copy-next, copy-end}
 use Rattle.estimator.proofs.copy_to.Statement.{statement}
 use Rattle.estimator.proofs.copy_to.Tie as tie
 
@@ -40,7 +41,7 @@ loop-again : tie.Need-loop-again Inv-loop μ-loop
 loop-again c =
     let l = c .before .before .loop in
     let a = c .before .before .before .args in
-    (simp length-set (omega arith), length-set (l .out) (l .i) _ ∙ l .inv .1, l .inv .2 ∙ copy-next (l .out) (a .from .now) (l .i) (omega arith) (omega arith))
+    (simp length-set (omega arith), length-set (l .out) (l .i) _ ∙ l .inv .1, l .inv .2 ∙ copy-next (l .out) (a .from .now) (l .i) nan (omega arith) (omega arith))
 
 same-length : tie.Need-same-length Inv-loop μ-loop
 same-length c = c .before .loop .inv .1

@@ -39,7 +39,7 @@ M c = dynamics-of (c .args .system) (c .args .matrix .now) (c .args .config)
 abbrev width : tie.Start Inv-loop μ-loop → ℕ
 width c = 1 + 2 * c .args .config .«top_k»
 
--- where a iteration starts, and where its window leads
+-- where an iteration starts, and where its window leads
 abbrev here : tie.At-loop Inv-loop μ-loop → RunState
 here c = let a = start c .args in run-state (dim (a .system)) (a .config .«top_k») (c .loop .state) (c .loop .tangents) (c .loop .norms) (c .loop .p)
 

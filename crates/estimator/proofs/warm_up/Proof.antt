@@ -33,7 +33,7 @@ iteration c = c .before .before .before .before .before .before
 abbrev M : tie.Start Inv-loop μ-loop → Dynamics
 M c = dynamics-of (c .args .system) (c .args .matrix .now) (c .args .config)
 
--- where a iteration starts, and where its window leads
+-- where an iteration starts, and where its window leads
 abbrev here : tie.At-loop Inv-loop μ-loop → RunState
 here c = let a = start c .args in run-state (dim (a .system)) (a .config .«top_k») (c .loop .state) (c .loop .tangents) (c .loop .norms) (c .loop .p)
 

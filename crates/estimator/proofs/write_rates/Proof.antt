@@ -6,7 +6,7 @@ use mathlib.Core.Path.{_≡_, refl, sym, _∙_}
 use mathlib.Core.List.{_++_, map}
 use lib.ListN.{length, take, drop, length-set}
 use lib.Ieee.{binary64, div}
-use Rattle.estimator.proofs.Lists.{fill-next, fill-end}
+use Rattle.floats.proofs.Fill.{map-next, map-end}
 use Rattle.estimator.proofs.write_rates.Statement.{statement}
 use Rattle.estimator.proofs.write_rates.Tie as tie
 
@@ -41,7 +41,7 @@ loop-again : tie.Need-loop-again Inv-loop μ-loop
 loop-again c =
     let l = c .before .before .loop in
     let a = c .before .before .before .args in
-    (simp length-set (omega arith), length-set (l .row) (l .i) _ ∙ l .inv .1, l .inv .2 ∙ fill-next (λ x. div binary64 x (a .by)) (l .row) (a .values .now) (l .i) (omega arith) (omega arith))
+    (simp length-set (omega arith), length-set (l .row) (l .i) _ ∙ l .inv .1, l .inv .2 ∙ map-next (λ x. div binary64 x (a .by)) (l .row) (a .values .now) (l .i) (omega arith) (omega arith))
 
 same-length : tie.Need-same-length Inv-loop μ-loop
 same-length c = c .before .loop .inv .1
@@ -50,7 +50,7 @@ returns : tie.Need-returns Inv-loop μ-loop
 returns c =
     let l = c .before .loop in
     let a = c .before .before .args in
-    sym (l .inv .2 ∙ fill-end (λ x. div binary64 x (a .by)) (l .row) (a .values .now) (l .i) (omega arith) (omega arith))
+    sym (l .inv .2 ∙ map-end (λ x. div binary64 x (a .by)) (l .row) (a .values .now) (l .i) (omega arith) (omega arith))
 
 pub write-rates-spec : {M : Type 1} → statement M
 write-rates-spec =

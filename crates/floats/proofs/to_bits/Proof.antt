@@ -1,11 +1,12 @@
 -- `floats::to_bits` meets its contract.
 use borrow.Author.Needs.{needs}
-use Rattle.floats.proofs.Magnitude.{no-nan, nan-bits}
+use Rattle.floats.proofs.Magnitude.{nan-bits}
+use Rattle.floats.proofs.Ordinary.{equal-no-nan}
 use Rattle.floats.proofs.to_bits.Statement.{statement}
 use Rattle.floats.proofs.to_bits.Tie as tie
 
 float-to-bits-result : tie.Need-float-to-bits-result
-float-to-bits-result c = no-nan (c .before .args .x) (c .if1 .left)
+float-to-bits-result c = equal-no-nan (c .before .args .x) (c .if1 .left)
 
 returns : tie.Need-returns
 returns c = nan-bits (c .before .args .x) (c .if1 .taken)

@@ -8,7 +8,7 @@ use lib.ListN.{length, take, drop, length-set}
 use Rattle.gram_schmidt.proofs.divide.Statement.{statement}
 use Rattle.gram_schmidt.proofs.divide.Tie as tie
 use Rattle.floats.specs.Arithmetic.{_⊘_}
-use Rattle.floats.proofs.Fill.{map-next, map-end}
+use Rattle.floats.proofs.Fill.{map-own-next, map-end}
 
 abbrev Inv-loop : tie.InvT-loop
 Inv-loop s₀ by i₀ s i = (i ≤ length s) × (length s ≡ length s₀) × (map (λ x. x ⊘ by) s₀ ≡ take i s ++ map (λ x. x ⊘ by) (drop i s))
@@ -41,7 +41,7 @@ loop-again : tie.Need-loop-again Inv-loop μ-loop
 loop-again c =
     let l = c .before .before .loop in
     let by = c .before .before .before .args .by in
-    (simp length-set (omega arith), length-set (l .s) (l .i) _ ∙ l .inv .1, l .inv .2 ∙ map-next (λ x. x ⊘ by) (l .s) (l .i) (omega arith))
+    (simp length-set (omega arith), length-set (l .s) (l .i) _ ∙ l .inv .1, l .inv .2 ∙ map-own-next (λ x. x ⊘ by) (l .s) (l .i) (omega arith))
 
 same-length : tie.Need-same-length Inv-loop μ-loop
 same-length c = c .before .loop .inv .1
@@ -50,7 +50,7 @@ returns : tie.Need-returns Inv-loop μ-loop
 returns c =
     let l = c .before .loop in
     let by = c .before .before .args .by in
-    sym (l .inv .2 ∙ map-end (λ x. x ⊘ by) (l .s) (l .i) (omega arith))
+    sym (l .inv .2 ∙ map-end (λ x. x ⊘ by) (l .s) (l .s) (l .i) (omega arith) (omega arith))
 
 pub divide-spec : {M : Type 1} → statement M
 divide-spec =

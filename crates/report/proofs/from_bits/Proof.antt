@@ -1,5 +1,6 @@
 -- `report::from_bits` meets its contract.
-use Rattle.report.proofs.Decoding.{no-nan-pattern, nan-pattern}
+use Rattle.floats.proofs.Pattern.{no-nan-pattern}
+use Rattle.report.proofs.Decoding.{nan-pattern}
 use borrow.Author.Needs.{needs}
 use Rattle.report.proofs.from_bits.Statement.{statement}
 use Rattle.report.proofs.from_bits.Tie as tie
