@@ -1,349 +1,480 @@
-/* Replays a list of inputs and answers against the static library: replay LIST [SPECTRUM].
+/* Replays a list of inputs and answers against the static library: replay LIST SPECTRUM.
  * SPECTRUM is the program of that name, for the cases that are its input. The list says how its
- * lines read. Each output is lent with two entries more than its length, which must stay. */
-#include <inttypes.h>
-#include <stdint.h>
-#include <stdio.h>
-#include <stdlib.h>
-#include <string.h>
+ * lines read. A run from time 0 is asked of lyapunov_estimate_spectrum too, and of
+ * lyapunov_estimate_largest where its settings are those that this sets.
+ * Exit status: 0 every answer is met, 1 one is not, 2 the list or the usage is wrong. */
+#include <signal.h>
+#include <stdarg.h>
 #include <sys/wait.h>
 #include <unistd.h>
 
+#include "lent.h"
+#include "line.h"
 #include "lyapunov.h"
 
-#define FILLING UINT64_C(0x7ff4dead0000beef)
-
 static const char *spectrum;
-static char *given, *answered;
+static const char *asked = "";
+static char reason[300];
+static size_t by_spectrum, by_largest;
 
-static double float_of(uint64_t bits) {
+/* Notes what differs; answers 0. */
+__attribute__((format(printf, 1, 2))) static int differs(const char *format, ...) {
+    va_list arguments;
+    int n = snprintf(reason, sizeof reason, "%s: ", asked);
+    va_start(arguments, format);
+    vsnprintf(reason + n, sizeof reason - (size_t)n, format, arguments);
+    va_end(arguments);
+    return 0;
+}
+
+static double float_of(uint64_t word) {
     double x;
-    memcpy(&x, &bits, sizeof x);
+    memcpy(&x, &word, sizeof x);
     return x;
 }
 
 static uint64_t bits_of(double x) {
-    uint64_t bits;
-    memcpy(&bits, &x, sizeof bits);
-    return bits;
+    uint64_t word;
+    memcpy(&word, &x, sizeof word);
+    return word;
 }
 
-/* The text behind " name=" in a part of a line. */
-static const char *field(const char *part, const char *name) {
-    size_t n = strlen(name);
-    for (const char *at = part; (at = strchr(at, ' ')) != NULL;) {
-        at++;
-        if (strncmp(at, name, n) == 0 && at[n] == '=') return at + n + 1;
-    }
-    fprintf(stderr, "no field %s in:%s\n", name, part);
-    exit(2);
+static double number(const char *text) {
+    return float_of(bits(text));
 }
 
-static uint64_t decimal(const char *part, const char *name) {
-    return strtoull(field(part, name), NULL, 10);
+/* Equal bits, or two NaNs. */
+static int same(uint64_t x, uint64_t y) {
+    double a = float_of(x), b = float_of(y);
+    return a != a ? b != b : x == y;
 }
 
-static uint64_t hexadecimal(const char *part, const char *name) {
-    return strtoull(field(part, name), NULL, 16);
-}
-
-static double number(const char *part, const char *name) {
-    return float_of(hexadecimal(part, name));
-}
-
-typedef struct {
-    double *at;
-    size_t length;
-} list;
-
-/* Room for a list, filled, with two entries behind it. */
-static list filled(size_t length) {
-    list l = {malloc((length + 2) * sizeof(double)), length};
-    if (l.at == NULL) exit(2);
-    for (size_t i = 0; i < length + 2; i++) l.at[i] = float_of(FILLING);
-    return l;
-}
-
-static list read_list(const char *part, const char *name) {
-    const char *at = field(part, name);
-    size_t length = *at != '-' && *at != ' ' && *at != '\0';
-    for (const char *c = at; length > 0 && *c != '\0' && *c != ' '; c++) length += *c == ',';
-    list l = filled(length);
-    for (size_t i = 0; i < length; i++) {
-        char *end;
-        l.at[i] = float_of(strtoull(at, &end, 16));
-        at = end + 1;
+static lent *lend_list(const char *name, enum role role) {
+    const char *at = given(name);
+    lent *l = lend(name, role, list_length(at));
+    for (size_t i = 0; i < l->length; i++) {
+        to_entry(&at, i);
+        set_entry(l, i, read_bits(&at));
     }
     return l;
 }
 
-static int same(double x, uint64_t bits) {
-    double y = float_of(bits);
-    return y != y ? x != x : bits_of(x) == bits;
+static int memory_kept(void) {
+    const char *fault = memory_fault();
+    return fault == NULL ? 1 : differs("%s", fault);
 }
 
-/* Whether a list holds what the answer says; `.` is an entry that keeps what it held. */
-static int holds(list l, const char *name) {
-    const char *at = field(answered, name);
-    for (size_t i = 0; i < l.length; i++) {
-        if (*at == '.') {
-            if (bits_of(l.at[i]) != FILLING) return 0;
-            at += 2;
-        } else {
-            char *end;
-            if (!same(l.at[i], strtoull(at, &end, 16))) return 0;
-            at = end + 1;
+static int length_is(const char *name, size_t length) {
+    size_t listed = list_length(answered(name));
+    return listed == length ? 1 : differs("%s: %zu entries, listed %zu", name, length, listed);
+}
+
+static int number_is(const char *name, size_t i, uint64_t x, uint64_t listed) {
+    if (x == listed) return 1;
+    return differs("%s, entry %zu: %llu, listed %llu", name, i, (unsigned long long)x,
+                   (unsigned long long)listed);
+}
+
+static int float_is(const char *name, size_t i, uint64_t x, uint64_t listed) {
+    if (same(x, listed)) return 1;
+    return differs("%s, entry %zu: %016llx, listed %016llx", name, i, (unsigned long long)x,
+                   (unsigned long long)listed);
+}
+
+/* Whether a slice holds what the answer says; `.` is an entry that keeps what it held. */
+static int holds(const lent *l, const char *name) {
+    const char *at = answered(name);
+    if (!length_is(name, l->length)) return 0;
+    for (size_t i = 0; i < l->length; i++) {
+        to_entry(&at, i);
+        if (*at != '.') {
+            if (!float_is(name, i, entry(l, i), read_bits(&at))) return 0;
+            continue;
         }
+        at++;
+        if (l->role != OUTPUT) malformed("a slice that is read is listed in full", name);
+        if (entry(l, i) != FILLING) return differs("%s, entry %zu: written", name, i);
     }
-    return bits_of(l.at[l.length]) == FILLING && bits_of(l.at[l.length + 1]) == FILLING;
+    return 1;
 }
 
 /* A value, or `-` where none was written. */
-static int value_is(double x, const char *name) {
-    const char *at = field(answered, name);
-    return *at == '-' ? bits_of(x) == FILLING : same(x, strtoull(at, NULL, 16));
+static int value_is(const lent *l, const char *name) {
+    const char *text = answered(name);
+    if (strcmp(text, "-") != 0) return float_is(name, 0, entry(l, 0), bits(text));
+    return entry(l, 0) == FILLING ? 1 : differs("%s: written", name);
 }
 
 /* The place may be one of several, parted by `/`. */
-static int refused_as(uint64_t num, uint64_t place) {
-    const char *at = field(answered, "place");
-    if (num != decimal(answered, "num")) return 0;
-    for (;;) {
-        char *end;
-        if (strtoull(at, &end, 10) == place) return 1;
-        if (*end != '/') return 0;
-        at = end + 1;
+static int place_is(uint64_t place) {
+    for (const char *at = answered("place");; at++) {
+        if (read_decimal(&at, "/") == place) return 1;
+        if (*at == '\0') break;
     }
+    return differs("place: %llu, listed %s", (unsigned long long)place, answered("place"));
+}
+
+static int refused_as(uint64_t num, uint64_t place) {
+    return number_is("num", 0, num, decimal(answered("num"))) && place_is(place);
 }
 
 typedef struct {
     uint64_t kind;
     double p[3];
     size_t dimension;
-    list matrix;
+    const lent *matrix;
 } circuit;
 
 static circuit read_circuit(void) {
-    const char *name = field(given, "sys");
-    list parameters = read_list(given, "par");
-    circuit c = {0, {0, 0, 0}, 0, read_list(given, "mat")};
-    if (strncmp(name, "rossler", 7) == 0) c.kind = 1;
-    if (strncmp(name, "vdp", 3) == 0) c.kind = 2;
-    if (strncmp(name, "linear:", 7) == 0) {
-        c.kind = 3;
-        c.dimension = strtoull(name + 7, NULL, 10);
+    static const struct { const char *name; size_t parameters; } kinds[] = {
+        {"lorenz", 3}, {"rossler", 3}, {"vdp", 1}, {"linear:", 0}};
+    const char *name = given("sys"), *at = given("par");
+    circuit c = {0, {0, 0, 0}, 0, lend_list("mat", INPUT)};
+    while (c.kind < 3 && strcmp(name, kinds[c.kind].name) != 0) c.kind++;
+    size_t length = strlen(kinds[c.kind].name);
+    if (strncmp(name, kinds[c.kind].name, length) != 0) malformed("unknown system", name);
+    if (c.kind == LYAPUNOV_LINEAR) c.dimension = decimal(name + length);
+    if (list_length(at) != kinds[c.kind].parameters) malformed("so many parameters", at);
+    for (size_t i = 0; i < kinds[c.kind].parameters; i++) {
+        to_entry(&at, i);
+        c.p[i] = float_of(read_bits(&at));
     }
-    for (size_t i = 0; i < parameters.length && i < 3; i++) c.p[i] = parameters.at[i];
-    free(parameters.at);
     return c;
 }
 
 static int replay_root(void) {
-    return same(lyapunov_sqrt(number(given, "x")), hexadecimal(answered, "y"));
+    asked = "lyapunov_sqrt";
+    return float_is("y", 0, bits_of(lyapunov_sqrt(number(given("x")))), bits(answered("y")));
 }
 
 static int replay_log(void) {
-    double y = float_of(FILLING);
-    uint64_t num = lyapunov_ln(number(given, "x"), &y);
-    return refused_as(num, 0) && value_is(y, "y");
+    const lent *y = lend("out", OUTPUT, 1);
+    asked = "lyapunov_ln";
+    uint64_t num = lyapunov_ln(number(given("x")), doubles(y));
+    return memory_kept() && refused_as(num, 0) && value_is(y, "y");
 }
 
 static int replay_draw(void) {
-    uint64_t state = hexadecimal(given, "state"), n = decimal(given, "n");
-    const char *states = field(answered, "states"), *outs = field(answered, "outs");
-    const char *values = field(answered, "values");
+    uint64_t state = bits(given("state")), n = decimal(given("n"));
+    const char *states = answered("states"), *outs = answered("outs");
+    const char *values = answered("values");
+    asked = "lyapunov_splitmix64";
+    if (!length_is("states", n) || !length_is("outs", n) || !length_is("values", n)) return 0;
     for (uint64_t i = 0; i < n; i++) {
-        char *end;
         state = lyapunov_splitmix64_next(state);
         uint64_t out = lyapunov_splitmix64_value(state);
-        if (state != strtoull(states, &end, 16)) return 0;
-        states = end + 1;
-        if (out != strtoull(outs, &end, 16)) return 0;
-        outs = end + 1;
-        if (!same(lyapunov_splitmix64_symmetric_unit(out), strtoull(values, &end, 16))) return 0;
-        values = end + 1;
+        uint64_t unit = bits_of(lyapunov_splitmix64_symmetric_unit(out));
+        to_entry(&states, i);
+        to_entry(&outs, i);
+        to_entry(&values, i);
+        if (!number_is("states", i, state, read_bits(&states))) return 0;
+        if (!number_is("outs", i, out, read_bits(&outs))) return 0;
+        if (!float_is("values", i, unit, read_bits(&values))) return 0;
     }
     return 1;
 }
 
 static int replay_orth(void) {
-    list directions = read_list(given, "dirs"), numbers = filled(decimal(given, "numbers"));
-    uint64_t place = FILLING;
-    uint64_t num = lyapunov_modified_gram_schmidt(directions.at, directions.length,
-                                                  decimal(given, "d"), numbers.at,
-                                                  numbers.length, &place);
-    int ok = refused_as(num, place) && holds(directions, "dirs") && holds(numbers, "numbers");
-    free(directions.at);
-    free(numbers.at);
-    return ok;
+    const lent *directions = lend_list("dirs", BOTH), *place = lend("place", OUTPUT, 1);
+    const lent *numbers = lend("numbers", OUTPUT, decimal(given("numbers")));
+    asked = "lyapunov_modified_gram_schmidt";
+    uint64_t num = lyapunov_modified_gram_schmidt(
+        doubles(directions), directions->length, decimal(given("d")), doubles(numbers),
+        numbers->length, words(place));
+    return memory_kept() && refused_as(num, entry(place, 0)) && holds(directions, "dirs") &&
+           holds(numbers, "numbers");
 }
 
 static int replay_step(void) {
     circuit c = read_circuit();
-    list state = read_list(given, "state"), directions = read_list(given, "dirs");
-    uint64_t place = FILLING;
-    uint64_t num = lyapunov_step(c.kind, c.p[0], c.p[1], c.p[2], c.dimension, c.matrix.at,
-                                 c.matrix.length, number(given, "t"), state.at, state.length,
-                                 directions.at, directions.length, decimal(given, "count"),
-                                 number(given, "h"), &place);
-    int ok = refused_as(num, place) && holds(state, "state") && holds(directions, "dirs");
-    free(c.matrix.at);
-    free(state.at);
-    free(directions.at);
-    return ok;
+    const lent *state = lend_list("state", BOTH), *directions = lend_list("dirs", BOTH);
+    const lent *place = lend("place", OUTPUT, 1);
+    asked = "lyapunov_step";
+    uint64_t num = lyapunov_step(
+        c.kind, c.p[0], c.p[1], c.p[2], c.dimension, doubles(c.matrix), c.matrix->length,
+        number(given("t")), doubles(state), state->length, doubles(directions),
+        directions->length, decimal(given("count")), number(given("h")), words(place));
+    return memory_kept() && refused_as(num, entry(place, 0)) && holds(state, "state") &&
+           holds(directions, "dirs");
 }
 
-/* The tests 1 to 5 of a run, which the time's test, 6, follows. */
-static int replay_build(void) {
-    uint64_t counts[19];
-    double times[2];
-    uint64_t num = lyapunov_estimate_spectrum_at(
-        0, 0, 0, 0, 0, NULL, 0, float_of(FILLING), NULL, 0, decimal(given, "K"),
-        number(given, "h"), decimal(given, "steps"), decimal(given, "windows"),
-        decimal(given, "warmup"), hexadecimal(given, "seed"), NULL, 0, NULL, 0, NULL, 0, counts,
-        times);
-    return refused_as(num == 6 ? 0 : num, counts[0]);
+typedef struct {
+    circuit circuit;
+    double time;
+    const lent *start;
+    size_t top_k;
+    double step_size;
+    uint64_t steps, windows, warm_up, seed;
+} run;
+
+typedef struct {
+    const lent *rows, *exponents, *state, *counts, *times;
+} outputs;
+
+static void read_settings(run *r) {
+    r->top_k = decimal(given("K"));
+    r->step_size = number(given("h"));
+    r->steps = decimal(given("steps"));
+    r->windows = decimal(given("windows"));
+    r->warm_up = decimal(given("warmup"));
+    r->seed = bits(given("seed"));
 }
 
-static int counts_are(const uint64_t counts[19]) {
-    const char *at = field(answered, "faint");
-    for (size_t i = 0; i < 16; i++) {
-        char *end;
-        if (counts[3 + i] != strtoull(at, &end, 10)) return 0;
-        at = end + 1;
+static outputs lend_outputs(size_t rows, size_t exponents, size_t state) {
+    return (outputs){lend("rows", OUTPUT, rows), lend("exponents", OUTPUT, exponents),
+                     lend("final_state", OUTPUT, state), lend("counts", OUTPUT, LYAPUNOV_COUNTS),
+                     lend("times", OUTPUT, LYAPUNOV_TIMES)};
+}
+
+static uint64_t spectrum_at(const run *r, const outputs *o) {
+    const circuit *c = &r->circuit;
+    asked = "lyapunov_estimate_spectrum_at";
+    return lyapunov_estimate_spectrum_at(
+        c->kind, c->p[0], c->p[1], c->p[2], c->dimension, doubles(c->matrix), c->matrix->length,
+        r->time, doubles(r->start), r->start->length, r->top_k, r->step_size, r->steps, r->windows,
+        r->warm_up, r->seed, doubles(o->rows), o->rows->length, doubles(o->exponents),
+        o->exponents->length, doubles(o->state), o->state->length, words(o->counts),
+        doubles(o->times));
+}
+
+static uint64_t spectrum_from_zero(const run *r, const outputs *o) {
+    const circuit *c = &r->circuit;
+    asked = "lyapunov_estimate_spectrum";
+    by_spectrum++;
+    return lyapunov_estimate_spectrum(
+        c->kind, c->p[0], c->p[1], c->p[2], c->dimension, doubles(c->matrix), c->matrix->length,
+        doubles(r->start), r->start->length, r->top_k, r->step_size, r->steps, r->windows,
+        r->warm_up, r->seed, doubles(o->rows), o->rows->length, doubles(o->exponents),
+        o->exponents->length, doubles(o->state), o->state->length, words(o->counts),
+        doubles(o->times));
+}
+
+static uint64_t largest(const run *r, const outputs *o) {
+    const circuit *c = &r->circuit;
+    asked = "lyapunov_estimate_largest";
+    by_largest++;
+    return lyapunov_estimate_largest(
+        c->kind, c->p[0], c->p[1], c->p[2], c->dimension, doubles(c->matrix), c->matrix->length,
+        doubles(r->start), r->start->length, r->step_size, r->steps, r->windows, doubles(o->rows),
+        o->rows->length, doubles(o->exponents), o->exponents->length, doubles(o->state),
+        o->state->length, words(o->counts), doubles(o->times));
+}
+
+/* Refusal 5 has the same place for other K and other lengths of the outputs. */
+static int place_is_fixed(const run *r, uint64_t place) {
+    static const size_t others[][4] = {
+        {1, 0, 0, 0}, {2, 7, 2, 3}, {16, 600, 16, 16}, {17, 1, 0, 1}, {SIZE_MAX, 3, 1, 1}};
+    for (size_t i = 0; i < sizeof others / sizeof *others; i++) {
+        outputs o = lend_outputs(others[i][1], others[i][2], others[i][3]);
+        run other = *r;
+        other.top_k = others[i][0];
+        uint64_t num = spectrum_at(&other, &o), there = entry(o.counts, LYAPUNOV_PLACE);
+        if (num != 5 || there != place)
+            return differs("refused by 5 at %llu, but with K %zu and rows of %zu by %llu at %llu",
+                           (unsigned long long)place, other.top_k, others[i][1],
+                           (unsigned long long)num, (unsigned long long)there);
     }
-    return counts[1] == decimal(answered, "finished") && counts[2] == decimal(answered, "made");
+    return memory_kept();
+}
+
+static uint64_t build(const run *r, const lent *place) {
+    asked = "lyapunov_build_config";
+    return lyapunov_build_config(r->top_k, r->step_size, r->steps, r->windows, words(place));
+}
+
+/* The builder, which knows of no warm-up windows: where they alone are over, it accepts. */
+static int replay_builder(const run *r) {
+    const lent *place = lend("place", OUTPUT, 1), *again = lend("place", OUTPUT, 1);
+    uint64_t num = build(r, place);
+    run other = *r;
+    if (!memory_kept()) return 0;
+    if (strcmp(answered("num"), "5") == 0 && strcmp(answered("place"), "2") == 0)
+        return number_is("num", 0, num, 0) && number_is("place", 0, entry(place, 0), 0);
+    if (!refused_as(num, entry(place, 0))) return 0;
+    if (num != 5) return 1;
+    if (entry(place, 0) == 2) return differs("place 2, of warm-up windows");
+    other.top_k = 17;
+    return number_is("num with K 17", 0, build(&other, again), 5) &&
+           number_is("place with K 17", 0, entry(again, 0), entry(place, 0));
+}
+
+/* A run whose start time is not finite makes the tests 1 to 5, which 6 follows. */
+static int replay_build(void) {
+    run r = {.circuit.matrix = lend("mat", INPUT, 0), .start = lend("x0", INPUT, 0)};
+    outputs o = lend_outputs(0, 0, 0);
+    r.time = float_of(AROUND);
+    read_settings(&r);
+    uint64_t num = spectrum_at(&r, &o), place = entry(o.counts, LYAPUNOV_PLACE);
+    if (!memory_kept() || !refused_as(num == 6 ? 0 : num, place)) return 0;
+    if (num == 5 && !place_is_fixed(&r, place)) return 0;
+    return replay_builder(&r);
+}
+
+static int counts_are(const lent *counts) {
+    const char *at = answered("faint");
+    if (!length_is("faint", 16)) return 0;
+    for (size_t i = 0; i < 16; i++) {
+        to_entry(&at, i);
+        uint64_t faint = entry(counts, LYAPUNOV_FAINT + i);
+        if (!number_is("faint", i, faint, read_decimal(&at, ","))) return 0;
+    }
+    uint64_t finished = entry(counts, LYAPUNOV_FINISHED), made = entry(counts, LYAPUNOV_STEPS);
+    return number_is("finished", 0, finished, decimal(answered("finished"))) &&
+           number_is("made", 0, made, decimal(answered("made")));
 }
 
 /* The times of a refused run are +0.0. */
-static int time_is(double x, const char *name) {
-    const char *at = field(answered, name);
-    return same(x, *at == '-' ? 0 : strtoull(at, NULL, 16));
+static int time_is(uint64_t x, const char *name) {
+    const char *text = answered(name);
+    return float_is(name, 0, x, strcmp(text, "-") == 0 ? 0 : bits(text));
+}
+
+static int run_is(const run *r, uint64_t (*call)(const run *, const outputs *)) {
+    outputs o = lend_outputs(decimal(given("rowslen")), decimal(given("expslen")),
+                             decimal(given("finallen")));
+    uint64_t num = call(r, &o), place = entry(o.counts, LYAPUNOV_PLACE);
+    return memory_kept() && refused_as(num, place) && counts_are(o.counts) &&
+           time_is(entry(o.times, LYAPUNOV_FINAL_TIME), "ftime") &&
+           time_is(entry(o.times, LYAPUNOV_MEASURED_TIME), "mtime") && holds(o.rows, "rows") &&
+           holds(o.exponents, "exps") && holds(o.state, "final") &&
+           (num != 5 || place_is_fixed(r, place));
 }
 
 static int replay_run(void) {
-    circuit c = read_circuit();
-    list start = read_list(given, "x0"), rows = filled(decimal(given, "rowslen"));
-    list exponents = filled(decimal(given, "expslen")), state = filled(decimal(given, "finallen"));
-    uint64_t counts[19];
-    double times[2];
-    uint64_t num = lyapunov_estimate_spectrum_at(
-        c.kind, c.p[0], c.p[1], c.p[2], c.dimension, c.matrix.at, c.matrix.length,
-        number(given, "t0"), start.at, start.length, decimal(given, "K"), number(given, "h"),
-        decimal(given, "steps"), decimal(given, "windows"), decimal(given, "warmup"),
-        hexadecimal(given, "seed"), rows.at, rows.length, exponents.at, exponents.length, state.at,
-        state.length, counts, times);
-    int ok = refused_as(num, counts[0]) && counts_are(counts) && time_is(times[0], "ftime") &&
-             time_is(times[1], "mtime") && holds(rows, "rows") && holds(exponents, "exps") &&
-             holds(state, "final");
-    free(c.matrix.at);
-    free(start.at);
-    free(rows.at);
-    free(exponents.at);
-    free(state.at);
-    return ok;
+    run r = {.circuit = read_circuit(), .start = lend_list("x0", INPUT)};
+    r.time = number(given("t0"));
+    read_settings(&r);
+    if (!run_is(&r, spectrum_at)) return 0;
+    if (bits_of(r.time) != 0) return 1;
+    if (!run_is(&r, spectrum_from_zero)) return 0;
+    if (r.top_k != 1 || r.warm_up != 0 || r.seed != LYAPUNOV_DEFAULT_SEED) return 1;
+    return run_is(&r, largest);
 }
 
 static int replay_rates(void) {
-    list rates = read_list(given, "rates");
-    double dimension = float_of(FILLING), entropy = float_of(FILLING);
-    uint64_t p = FILLING, q = FILLING;
-    uint64_t m = lyapunov_kaplan_yorke_dimension(rates.at, rates.length, &dimension, &p);
-    uint64_t n = lyapunov_kolmogorov_sinai_entropy(rates.at, rates.length, &entropy, &q);
-    free(rates.at);
-    return refused_as(m, p) && refused_as(n, q) && value_is(dimension, "dim") &&
-           value_is(entropy, "ent");
+    const lent *rates = lend_list("rates", INPUT);
+    const lent *dimension = lend("out", OUTPUT, 1), *entropy = lend("out", OUTPUT, 1);
+    const lent *p = lend("place", OUTPUT, 1), *q = lend("place", OUTPUT, 1);
+    asked = "lyapunov_kaplan_yorke_dimension";
+    uint64_t num = lyapunov_kaplan_yorke_dimension(doubles(rates), rates->length,
+                                                   doubles(dimension), words(p));
+    if (!memory_kept() || !refused_as(num, entry(p, 0)) || !value_is(dimension, "dim")) return 0;
+    asked = "lyapunov_kolmogorov_sinai_entropy";
+    num = lyapunov_kolmogorov_sinai_entropy(doubles(rates), rates->length, doubles(entropy),
+                                            words(q));
+    return memory_kept() && refused_as(num, entry(q, 0)) && value_is(entropy, "ent");
 }
 
-/* Writes the bytes, given in hexadecimal, to a descriptor. */
+/* Writes the bytes, given in hexadecimal, to a descriptor, one at a time. The program need not
+ * read all of them: it is then a write that fails, since the signal for it is ignored. */
 static void write_bytes(int to, const char *digits) {
-    for (; *digits != '-' && *digits != ' ' && *digits != '\0'; digits += 2) {
-        char pair[3] = {digits[0], digits[1], 0};
+    size_t length = strcmp(digits, "-") == 0 ? 0 : strlen(digits);
+    if (length % 2 != 0 || (length > 0 && strspn(digits, "0123456789abcdef") != length))
+        malformed("no bytes in hexadecimal", digits);
+    for (size_t i = 0; i < length; i += 2) {
+        char pair[3] = {digits[i], digits[i + 1], 0};
         unsigned char byte = (unsigned char)strtoul(pair, NULL, 16);
-        if (write(to, &byte, 1) != 1) exit(2);
+        if (write(to, &byte, 1) != 1) return;
     }
 }
 
-static int replay_program(void) {
+/* The program's process, with pipes to its input and from its output. */
+static pid_t start_program(int *to, int *from) {
     int in[2], out[2];
-    char text[128];
-    size_t length = 0;
-    ssize_t n;
-    if (pipe(in) != 0 || pipe(out) != 0) exit(2);
+    if (pipe(in) != 0 || pipe(out) != 0) abort();
     pid_t child = fork();
+    if (child < 0) abort();
     if (child == 0) {
         dup2(in[0], 0);
         dup2(out[1], 1);
         close(in[1]);
         close(out[0]);
+        signal(SIGPIPE, SIG_DFL);
         execl(spectrum, spectrum, (char *)NULL);
         _exit(127);
     }
     close(in[0]);
     close(out[1]);
-    write_bytes(in[1], field(given, "bytes"));
-    close(in[1]);
-    while (length < sizeof text && (n = read(out[0], text + length, sizeof text - length)) > 0)
+    *to = in[1];
+    *from = out[0];
+    return child;
+}
+
+static int replay_program(void) {
+    int to, from, status;
+    char text[128];
+    size_t length = 0;
+    ssize_t n;
+    pid_t child = start_program(&to, &from);
+    asked = "spectrum";
+    write_bytes(to, given("bytes"));
+    close(to);
+    while (length + 1 < sizeof text &&
+           (n = read(from, text + length, sizeof text - 1 - length)) > 0)
         length += (size_t)n;
-    close(out[0]);
-    waitpid(child, NULL, 0);
+    close(from);
+    if (waitpid(child, &status, 0) != child) abort();
+    if (!WIFEXITED(status)) return differs("ended by signal %d", WTERMSIG(status));
+    if (WEXITSTATUS(status) != 0) return differs("exit status %d", WEXITSTATUS(status));
+    if (length == 0 || text[length - 1] != '\n') return differs("prints no whole line");
     /* In the list a line's end is `|`, but for the last, and a space is `_`. */
-    const char *at = field(answered, "out");
-    for (size_t i = 0; i + 1 < length; i++, at++)
-        if (*at != (text[i] == '\n' ? '|' : text[i] == ' ' ? '_' : text[i])) return 0;
-    return length > 0 && text[length - 1] == '\n' && (*at == ' ' || *at == '\0');
+    text[--length] = '\0';
+    for (size_t i = 0; i < length; i++)
+        text[i] = text[i] == '\n' ? '|' : text[i] == ' ' ? '_' : text[i];
+    if (strcmp(text, answered("out")) == 0) return 1;
+    return differs("prints %s, listed %s", text, answered("out"));
 }
 
-static const struct {
-    const char *name;
-    int (*replay)(void);
-} kinds[] = {{"root", replay_root},   {"log", replay_log},     {"draw", replay_draw},
-             {"orth", replay_orth},   {"step", replay_step},   {"build", replay_build},
-             {"run", replay_run},     {"rates", replay_rates}, {"prog", replay_program}};
-
-/* 1 where the line's answer is met, 0 where not, -1 where the program is not at hand. */
+/* Whether the answer of a line is met. */
 static int replay(char *line) {
-    char *arrow = strstr(line, " -> "), *remark = strstr(line, " # ");
-    if (arrow == NULL) {
-        fprintf(stderr, "no answer in: %s\n", line);
-        exit(2);
-    }
-    if (remark != NULL) *remark = '\0';
-    *arrow = '\0';
-    given = line;
-    answered = arrow + 3;
+    static const struct { const char *name; int (*replay)(void); } kinds[] = {
+        {"root", replay_root}, {"log", replay_log},     {"draw", replay_draw},
+        {"orth", replay_orth}, {"step", replay_step},   {"build", replay_build},
+        {"run", replay_run},   {"rates", replay_rates}, {"prog", replay_program}};
+    const char *kind = read_line(line), *id = given("id");
     for (size_t i = 0; i < sizeof kinds / sizeof *kinds; i++) {
-        size_t n = strlen(kinds[i].name);
-        if (strncmp(line, kinds[i].name, n) != 0 || line[n] != ' ') continue;
-        if (kinds[i].replay == replay_program && spectrum == NULL) return -1;
-        return kinds[i].replay();
+        if (strcmp(kind, kinds[i].name) != 0) continue;
+        int met = kinds[i].replay();
+        if (met) every_field_was_used();
+        else printf("differs: %s, %s\n", id, reason);
+        end_all_lent();
+        return met;
     }
-    fprintf(stderr, "unknown kind: %s\n", line);
-    exit(2);
+    malformed("unknown kind", kind);
+    return 0;
 }
 
-int main(int count, char **words) {
-    FILE *file = count == 2 || count == 3 ? fopen(words[1], "r") : NULL;
+/* Lines that are neither empty nor a remark, counted by their first characters alone. */
+static size_t count_cases(FILE *file) {
+    size_t cases = 0;
+    for (int before = '\n', c; (c = getc(file)) != EOF; before = c)
+        cases += before == '\n' && c != '\n' && c != '#';
+    rewind(file);
+    return cases;
+}
+
+int main(int count, char **arguments) {
+    FILE *file = count == 3 ? fopen(arguments[1], "r") : NULL;
     char *line = NULL;
-    size_t room = 0, cases = 0, differ = 0, left_out = 0;
+    size_t room = 0, replayed = 0, differ = 0, cases = file == NULL ? 0 : count_cases(file);
     if (file == NULL) {
-        fprintf(stderr, "usage: replay LIST [SPECTRUM]\n");
+        fprintf(stderr, "usage: replay LIST SPECTRUM\n");
         return 2;
     }
-    spectrum = count == 3 ? words[2] : NULL;
-    while (getline(&line, &room, file) > 0) {
-        line[strcspn(line, "\n")] = '\0';
+    spectrum = arguments[2];
+    signal(SIGPIPE, SIG_IGN);
+    for (ssize_t n; (n = getline(&line, &room, file)) > 0;) {
+        line_number++;
+        if (line[n - 1] != '\n') malformed("no end", line);
+        line[n - 1] = '\0';
+        if (strlen(line) != (size_t)n - 1) malformed("a zero byte", line);
         if (*line == '#' || *line == '\0') continue;
-        int met = replay(line);
-        cases++;
-        left_out += met < 0;
-        if (met == 0) {
-            differ++;
-            printf("differs: %.60s\n", line);
-        }
+        differ += !replay(line);
+        replayed++;
     }
     free(line);
     fclose(file);
-    printf("%zu cases replayed, %zu differ, %zu left out\n", cases - left_out, differ, left_out);
-    return differ > 0 || cases == left_out;
+    printf("%zu of %zu cases replayed (runs from time 0 too: %zu, for the largest too: %zu), %zu differ\n",
+           replayed, cases, by_spectrum, by_largest, differ);
+    return differ > 0 || cases == 0 || replayed != cases;
 }

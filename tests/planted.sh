@@ -1,0 +1,211 @@
+#!/usr/bin/env bash
+# Wrong lists, wrong libraries and wrong programs: tests/replay.c must notice each, and say what is
+# wrong with it. Usage: tests/planted.sh ARCHIVE SPECTRUM
+set -euo pipefail
+archive=$(realpath "$1") right_program=$(realpath "$2")
+cd "$(dirname "${BASH_SOURCE[0]}")/.."
+work=$(mktemp -d)
+trap 'rm -rf "$work"' EXIT
+list=$work/list program=$right_program noticed=0
+
+compile="cc -std=gnu11 -Wall -Wextra -Werror -O2 -I include"
+$compile tests/replay.c "$archive" -o "$work/replay"
+wraps=$(sed -n 's/^#define \(lyapunov_[a-z_0-9]*\) .*/-Wl,--wrap=\1/p' tests/wrong_library.c)
+# shellcheck disable=SC2086 # one option a word
+$compile tests/replay.c tests/wrong_library.c "$archive" $wraps -o "$work/wrong"
+replay=$work/replay
+
+fail() {
+    echo "planted: $*" >&2
+    exit 1
+}
+
+met() { # NAME: what is planted is the only fault
+    "$replay" "$list" "$program" >"$work/out" 2>&1 || fail "$1: not met without it: $(cat "$work/out")"
+}
+
+must_notice() { # NAME MESSAGE
+    local status=0
+    "$replay" "$list" "$program" >"$work/out" 2>&1 || status=$?
+    [ $status -eq 1 ] || [ $status -eq 2 ] || fail "$1: NOT NOTICED (status $status)"
+    grep -qF -- "$2" "$work/out" || fail "$1: noticed as $(cat "$work/out"), not as $2"
+    noticed=$((noticed + 1))
+}
+
+first() { # PATTERN: the first case of the list that matches
+    grep -m1 -E -- "$1" tests/answers.txt || fail "no case matches $1"
+}
+
+edited() { # CASE EDIT MESSAGE: the case with one token changed
+    local changed
+    changed=$(sed -E -- "$2" <<<"$1")
+    [ "$changed" != "$1" ] || fail "nothing to plant by $2"
+    printf '%s\n' "$1" >"$list" && met "$2"
+    printf '%s\n' "$changed" >"$list" && must_notice "$2" "$3"
+}
+
+answer() { # PATTERN EDIT MESSAGE
+    edited "$(first "$1")" "$2" "$3"
+}
+
+wrong() { # CASE WRONG MESSAGE: the case with the wrong library
+    replay=$work/wrong
+    printf '%s\n' "$1" >"$list" && met "$2"
+    WRONG=$2 must_notice "$2" "$3"
+    replay=$work/replay
+}
+
+ended='^run .*num=0 .* rows=[0-9a-f]{16}.* exps=[0-9a-f]{16},.* final=[0-9a-f]{16},'
+refused='^run .*num=1[123] .* rows=\.,.* exps=\..* final=\.'
+late='^run .*num=1[4678] .* finished=[1-9].* rows=[0-9a-f]{16}.*,\.'
+orth='^orth .*num=0 .*dirs=[0-9a-f]{16},.*numbers=[0-9a-f]{16},'
+step='^step .*sys=linear.*num=0 .*state=[0-9a-f]{16},.*dirs=[0-9a-f]{16},'
+x='[0-9a-f]{16}'
+
+# Answered lists: an entry changed, kept in place of written and the reverse, one more, one less.
+for name in rows exps final; do
+    answer "$ended" "s/( $name=[0-9a-f]{15})[0-9a-e]/\1f/; t; s/( $name=[0-9a-f]{15})f/\10/" "$name, entry 0: "
+    answer "$ended" "s/( $name=)$x/\1./" "$name, entry 0: written"
+    answer "$ended" "s/( $name=)$x/\17ff8000000000000/" "$name, entry 0: "
+    answer "$refused" "s/( $name=)\./\17ff8000000000000/" "$name, entry 0: 5a5a5a5a5a5a5a5a, listed 7ff8"
+    answer "$refused" "s/( $name=)\./\10000000000000000/" "$name, entry 0: 5a5a5a5a5a5a5a5a, listed 0000"
+    answer "$ended" "s/( $name=)/\10000000000000000,/" "$name: "
+    answer "$ended" "s/( $name=)$x,/\1/" "$name: "
+    answer "$refused" "s/( $name=[.,]*\.)/\1,./" "$name: "
+done
+answer "$late" "s/( rows=$x)/\1,./" "rows: "
+answer "$late" "s/( rows=.*),\. exps/\1,0000000000000000 exps/" "5a5a5a5a5a5a5a5a, listed 0000"
+for name in dirs numbers; do
+    answer "$orth" "s/(-> .* $name=)$x/\17ff8000000000000/" "$name, entry 0: "
+    answer "$orth" "s/(-> .* $name=)/\10000000000000000,/" "$name: "
+    answer "$orth" "s/(-> .* $name=)$x,/\1/" "$name: "
+done
+answer '^orth .*numbers=[^ ]*\.' 's/(-> .* numbers=[^.]*)\./\17ff8000000000000/' 'numbers, entry '
+answer '^orth .*-> .*dirs=[^ ]*7ff8' 's/(-> .* dirs=[^ ]*)7ff8000000000000/\13ff0000000000000/' 'dirs, entry '
+answer '^orth .*-> .*dirs=[^ ]*7ff8' 's/(-> .* dirs=[^ ]*)7ff8000000000000/\1./' 'malformed line 1: a slice that is read'
+for name in state dirs; do
+    answer "$step" "s/(-> .* $name=)$x/\17ff8000000000000/" "$name, entry 0: "
+    answer "$step" "s/(-> .* $name=)/\10000000000000000,/" "$name: "
+    answer "$step" "s/(-> .* $name=)$x,/\1/" "$name: "
+done
+for name in states outs values; do
+    answer '^draw' "s/( $name=)$x/\10123456789abcdef/" "$name, entry 0: "
+    answer '^draw' "s/( $name=)$x,/\1/" "$name: "
+    answer '^draw' "s/( $name=)/\10000000000000000,/" "$name: "
+done
+answer '^run' 's/( faint=)0/\17/' 'faint, entry 0: '
+answer '^run' 's/( faint=)0,/\1/' 'faint: 16 entries, listed 15'
+answer '^run' 's/( faint=)/\10,/' 'faint: 16 entries, listed 17'
+
+# Answered numbers, places, counts, times and values.
+for name in num place finished made; do
+    answer "$ended" "s/( $name=)([0-9]*)/\1\20/; s/( $name=)00/\19/" "$name"
+    answer "$late" "s/( $name=)([0-9]*)/\19\2/" "$name"
+done
+for name in ftime mtime; do
+    answer "$ended" "s/( $name=)$x/\1-/" "$name, entry 0: "
+    answer "$ended" "s/( $name=)$x/\17ff8000000000000/" "$name, entry 0: "
+    answer "$late" "s/( $name=)-/\13ff0000000000000/" "$name, entry 0: "
+done
+for kind in build step orth rates; do
+    answer "^$kind .*num=[1-9]" 's/(-> num=)[0-9]*/\10/' 'num, entry 0: '
+    answer "^$kind .*num=0" 's/(-> num=)0/\17/' 'num, entry 0: '
+    answer "^$kind .*num=0" 's/(-> .*place=)0/\11/' 'place: 0, listed 1'
+done
+answer '^build .*num=5 place=1/2' 's/place=1.2/place=0/' 'place: 1, listed 0'
+answer '^build .*num=5 place=1/2' 's/place=1.2/place=2/' 'place: 1, listed 2'
+answer '^build .*num=5 place=0' 's/place=0/place=1\/2/' 'place: 0, listed 1/2'
+answer '^root' "s/( y=)$x/\17ff8000000000000/" 'y, entry 0: '
+answer '^root .*y=7ff8' 's/( y=)7ff8000000000000/\10000000000000000/' 'y, entry 0: '
+answer '^log .*num=0' "s/( y=)$x/\1-/" 'y: written'
+answer '^log .*num=24' 's/( y=)-/\17ff8000000000000/' 'y, entry 0: 5a5a'
+for name in dim ent; do
+    answer '^rates .*num=0' "s/( $name=)$x/\1-/" "$name: written"
+    answer '^rates .*num=0' "s/( $name=)$x/\17ff8000000000000/" "$name, entry 0: "
+    answer '^rates .*num=22' "s/( $name=)-/\17ff8000000000000/" "$name, entry 0: 5a5a"
+done
+answer '^prog .*out=4' 's/(out=4)0/\11/' 'spectrum: prints 4'
+answer '^prog .*out=4' 's/(out=[0-9a-f]*)[|].*/\1/' 'spectrum: prints 4'
+answer '^prog .*out=refused_21_0' 's/21_0/21_1/' 'prints refused_21_0, listed refused_21_1'
+answer '^prog .*out=refused_20_0' 's/20_0/20_0|/' 'prints refused_20_0, listed refused_20_0|'
+
+# Lines and lists that do not read.
+answer '^run' 's/ -> / /' 'malformed line 1: no answer'
+answer '^run' 's/ K=/ -> K=/' 'malformed line 1: two arrows'
+answer '^run' 's/^run/runs/' 'malformed line 1: unknown kind: runs'
+answer '^run' 's/ K=[0-9]*//' 'malformed line 1: field missing: K'
+answer '^run' 's/ K=/ K=1 K=/' 'malformed line 1: field twice: K'
+answer '^run' 's/ K=/ Q=1 K=/' 'malformed line 1: unknown field: Q'
+answer '^run' 's/ -> / -> Q=1 /' 'malformed line 1: unknown field: Q'
+answer '^run' 's/ K=[0-9]*/ K=x/' 'malformed line 1: no decimal number: x'
+answer '^run' 's/ h=[0-9a-f]/ h=/' 'malformed line 1: no 16 hexadecimal digits'
+answer '^run' 's/ K=/ K/' 'malformed line 1: no field: K'
+answer '^run .*sys=linear' 's/sys=linear/sys=duffing/' 'malformed line 1: unknown system'
+answer '^run .*sys=linear' 's/par=-/par=3ff0000000000000/' 'malformed line 1: so many parameters'
+answer '^prog .*bytes=0' 's/bytes=0/bytes=/' 'malformed line 1: no bytes'
+printf '# a remark\n\n' >"$list" && must_notice 'a list of no cases' '0 of 0 cases replayed'
+first '^root' | tr -d '\n' >"$list" && must_notice 'a list that ends inside a line' 'line 1: no end'
+first '^root' | sed 's/$/\x00 more/' >"$list" && must_notice 'a zero byte' 'line 1: a zero byte'
+
+# Libraries that write beside a slice, write what is lent for reading, or leave a number unwritten.
+a_run=$(first "$ended") a_step=$(first "$step")
+for where in before behind; do
+    for slice in rows exponents final_state counts times; do
+        wrong "$a_run" "$slice $where" "memory $where $slice was written"
+    done
+    wrong "$a_run" "matrix $where" "memory $where mat was written"
+    wrong "$a_run" "state $where" "memory $where x0 was written"
+    wrong "$a_step" "matrix $where" "memory $where mat was written"
+    wrong "$a_step" "state $where" "memory $where state was written"
+    wrong "$a_step" "tangents $where" "memory $where dirs was written"
+    wrong "$(first "$orth")" "tangents $where" "memory $where dirs was written"
+    wrong "$(first "$orth")" "numbers $where" "memory $where numbers was written"
+    wrong "$(first '^log')" "out $where" "memory $where out was written"
+    wrong "$(first '^rates')" "rates $where" "memory $where rates was written"
+    wrong "$(first '^rates')" "out $where" "memory $where out was written"
+    for kind in build step orth rates; do
+        wrong "$(first "^$kind")" "place $where" "memory $where place was written"
+    done
+done
+wrong "$(first '^run .*sys=linear.*num=0')" 'matrix changed' 'memory of the input mat was written'
+wrong "$a_run" 'state changed' 'memory of the input x0 was written'
+wrong "$(first '^rates .*num=0')" 'rates changed' 'memory of the input rates was written'
+wrong "$a_run" 'counts kept' 'place: '
+wrong "$a_run" 'times kept' 'ftime, entry 0: '
+for kind in build step orth rates; do
+    wrong "$(first "^$kind")" 'place kept' 'place: '
+done
+for slice in rows:rows exponents:exps final_state:final; do
+    wrong "$a_run" "${slice%:*} kept" "${slice#*:}, entry 0: 5a5a5a5a5a5a5a5a"
+done
+
+# Libraries that refuse or run otherwise.
+over=$(first '^build .*num=5 place=1/2')
+both_over=$(sed -E 's/steps=[0-9]*/steps=16777217/; s/place=1.2/place=0\/1\/2/' <<<"$over")
+wrong "$over" 'place by K' 'refused by 5 at 1, but with K 17'
+wrong "$over" 'place by outputs' 'refused by 5 at 1, but with K 16 and rows of 600'
+wrong "$both_over" "builder's place by K" 'place with K 17, entry 0: 1, listed 0'
+wrong "$over" 'builder accepts' 'lyapunov_build_config: num, entry 0: 0, listed 5'
+from_zero=$(first '^run .*sys=rossler .*K=1 h=3.* warmup=0 seed=4c594150554e4f56 t0=0000000000000000 .*num=0')
+wrong "$from_zero" 'from time one' 'lyapunov_estimate_spectrum: ftime'
+wrong "$from_zero" 'another seed' 'lyapunov_estimate_largest: '
+wrong "$from_zero" 'one warm-up' 'lyapunov_estimate_largest: made'
+wrong "$(first '^rates .*num=0')" 'dimension for entropy' 'lyapunov_kolmogorov_sinai_entropy: ent'
+
+# Programs: the right answer and then something else.
+stand_in() { # COMMAND MESSAGE: a program that runs the right one and then the command
+    first '^prog .*out=refused_21' >"$list"
+    program=$right_program && met "$1"
+    program=$work/program
+    printf '#!/bin/sh\n"%s"\n%s\n' "$right_program" "$1" >"$program" && chmod +x "$program"
+    must_notice "$1" "$2"
+    program=$right_program
+}
+stand_in 'exit 3' 'spectrum: exit status 3'
+stand_in 'kill -9 $$' 'spectrum: ended by signal 9'
+stand_in 'echo more' 'prints refused_21_0|more'
+stand_in 'printf more' 'prints no whole line'
+stand_in 'exec cat /dev/zero' 'spectrum: '
+program=/nonexistent && must_notice 'no program' 'spectrum: exit status 127'
+
+echo "$noticed planted faults, each noticed"
