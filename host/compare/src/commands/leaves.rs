@@ -122,13 +122,10 @@ fn generator(count: u64, random: &mut Random, oracle: Option<&Oracle>) -> u64 {
             differences.add(|| format!("splitmix64: state {state:016x}"));
         }
     }
-    let against = if oracle.is_some() {
-        "the source and the model"
-    } else {
-        "the model"
-    };
+    let by_source = if oracle.is_some() { states } else { 0 };
     println!(
-        "splitmix64: {states} states against {against}, {} differ",
+        "splitmix64: {states} states against the model, {by_source} of them against the source, {} \
+         differ",
         differences.count
     );
     differences.count
