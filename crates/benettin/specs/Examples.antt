@@ -3,16 +3,21 @@ use Prim.Native.Nat.{ℕ}
 use mathlib.Core.Path.{_≡_, refl}
 use mathlib.Core.Bool.{false}
 use mathlib.Core.List.{List, [], _∷_, _++_, map}
-use lib.IntN.{pos}
+use mathlib.Core.Option.{none}
+use lib.IntN.{pos, negsuc}
 use lib.Ieee.{Float, fin, binary64, ofBits, toBits, add, sub, mul, div, neg, round, ofInt, le, lt, eq}
-use Rattle.floats.specs.Arithmetic.{bits}
-use Rattle.floats.specs.Vector.{dot-from}
+use Rattle.error.specs.Refusal.{value, refused, refuse, refusal-in}
+use Rattle.error.specs.Tests.{first-failing}
+use Rattle.floats.specs.Arithmetic.{bits, half}
+use Rattle.floats.specs.Vector.{dot-from, zip}
 use Rattle.sqrt.specs.SquareRoot.{root}
 use Rattle.ln.specs.Logarithm.{log}
 use Rattle.splitmix64.specs.Mix.{mix, unit}
 use Rattle.system.specs.declared.System.the-variants.{Lorenz, Linear}
-use Rattle.benettin.specs.Run.{RunAnswer, ended, stopped, Row, OutputLengths}
-use Rattle.benettin.specs.Estimate.{Input, estimate, default-seed}
+use Rattle.benettin.specs.Run.{RunAnswer, ended, stopped, Row, lengths, faint-or-not}
+use Rattle.gram_schmidt.specs.GramSchmidt.{euclidean}
+use Rattle.benettin.specs.Estimate.{Input, estimate, default-seed, configured, with-warm-up, with-seed}
+use Rattle.benettin.specs.declared.BenettinConfig.{BenettinConfig}
 use Rattle.benettin.specs.LeadingSpectrum.{leading}
 
 abbrev whole : ℕ → Float
@@ -21,15 +26,19 @@ whole n = ofInt binary64 (pos n)
 abbrev row-bits : Row → List ℕ
 row-bits r = toBits binary64 (r .end-time) ∷ map (toBits binary64) (r .locals) ++ map (toBits binary64) (r .runnings)
 
--- rows, exponents, final state, faint counts and steps; or the rows, and number, place, finished windows and steps
+-- rows, exponents, final state, final and measured time, faint counts and steps; or the rows, then number, place, finished windows and steps, and faint counts
 abbrev answer-bits : RunAnswer → List (List ℕ)
-answer-bits (ended rows x) = map row-bits rows ++ (map (toBits binary64) (x .exponents) ∷ map (toBits binary64) (x .state) ∷ x .faint ∷ (x .steps ∷ []) ∷ [])
-answer-bits (stopped rows r f) = map row-bits rows ++ ((r .number ∷ r .place ∷ r .finished ∷ r .steps ∷ []) ∷ [])
+answer-bits (ended rows x) =
+    map row-bits rows
+    ++ (map (toBits binary64) (x .exponents)
+    ∷ map (toBits binary64) (x .state)
+    ∷ (toBits binary64 (x .final-time) ∷ toBits binary64 (x .measured-time) ∷ [])
+    ∷ x .faint
+    ∷ (x .steps ∷ [])
+    ∷ [])
+answer-bits (stopped rows r f) = map row-bits rows ++ ((r .number ∷ r .place ∷ r .finished ∷ r .steps ∷ []) ∷ f ∷ [])
 
-abbrev room : ℕ → ℕ → ℕ → OutputLengths
-room r e s = record { rows = r; exponents = e; state = s }
-
--- ---- Lorenz, one warm-up window and two measured ones of two steps
+-- ---- Lorenz, one warm-up window and two measured ones of three steps
 
 unfoldable pub lorenz : Input
 unfolding ofInt ofBits
@@ -38,38 +47,40 @@ lorenz =
       system = Lorenz (whole 10) (whole 28) (bits 0x4005555555555555);
       matrix = [];
       step-size = bits 0x3f847ae147ae147b;
-      steps = 2;
+      steps = 3;
       windows = 2;
       warm-up = 1;
       seed = default-seed;
-      time = whole 0;
-      state = whole 1 ∷ whole 1 ∷ whole 1 ∷ [];
+      time = whole 5;
+      state = whole 1 ∷ whole 2 ∷ whole 4 ∷ [];
     }
 
-pub lorenz-3 : answer-bits (estimate lorenz 3 (room 14 3 3)) ≡
-    (0x3fa47ae147ae147b ∷ 0x40231532fa1d404f ∷ 0xc014943027bfea67 ∷ 0xc0321012a7d3985e ∷ 0x40231532fa1d404f ∷ 0xc014943027bfea67 ∷ 0xc0321012a7d3985e ∷ [])
-    ∷ (0x3faeb851eb851eb9 ∷ 0x40252eecc7e9b716 ∷ 0xc00ff1232567dc5e ∷ 0xc03443d722675327 ∷ 0x4024220fe1037bb3 ∷ 0xc0124660dd39ec4b ∷ 0xc03329f4e51d75c2 ∷ [])
-    ∷ (0x4024220fe1037bb3 ∷ 0xc0124660dd39ec4b ∷ 0xc03329f4e51d75c2 ∷ [])
-    ∷ (0x3ff68d99f65f56c7 ∷ 0x4005e88a9a4d2f92 ∷ 0x3fef1f9b2b2ffcca ∷ [])
-    ∷ (0 ∷ 0 ∷ 0 ∷ []) ∷ (6 ∷ []) ∷ []
+pub lorenz-3 : answer-bits (estimate lorenz 3 (lengths 14 3 3)) ≡
+    (0x40143d70a3d70a3c ∷ 0x40232787ab202897 ∷ 0xc011ac018143a4f7 ∷ 0xc032d34eddab0473 ∷ 0x40232787ab202897 ∷ 0xc011ac018143a4f7 ∷ 0xc032d34eddab0473 ∷ [])
+    ∷ (0x40145c28f5c28f5a ∷ 0x4024de29398383ab ∷ 0xc00b258e8b845b22 ∷ 0xc034b4edce16c470 ∷ 0x402402d87251d621 ∷ 0xc00f3ec8c705d289 ∷ 0xc033c41e55e0e472 ∷ [])
+    ∷ (0x402402d87251d621 ∷ 0xc00f3ec8c705d289 ∷ 0xc033c41e55e0e472 ∷ [])
+    ∷ (0x4004886c2bea2dcd ∷ 0x40153f3ee778e4eb ∷ 0x400d2e7d6d94e851 ∷ [])
+    ∷ (0x40145c28f5c28f5a ∷ 0x3faeb851eb851eb8 ∷ [])
+    ∷ (0 ∷ 0 ∷ 0 ∷ []) ∷ (9 ∷ []) ∷ []
 unfolding estimate lorenz root log mix unit dot-from add sub mul div neg round ofInt le lt eq toBits ofBits
 lorenz-3 = refl
 
 -- rows one float short
-pub lorenz-short : answer-bits (estimate lorenz 3 (room 13 3 3)) ≡ (13 ∷ 0 ∷ 0 ∷ 0 ∷ []) ∷ []
+pub lorenz-short : answer-bits (estimate lorenz 3 (lengths 13 3 3)) ≡ (13 ∷ 0 ∷ 0 ∷ 0 ∷ []) ∷ (0 ∷ 0 ∷ 0 ∷ []) ∷ []
 unfolding estimate lorenz root log mix unit dot-from add sub mul div neg round ofInt le lt eq toBits ofBits
 lorenz-short = refl
 
 -- with the third direction struck out it is the run for two: demand 3, where the runs agree
 abbrev two-rates : List (List ℕ)
 two-rates =
-    (0x3fa47ae147ae147b ∷ 0x40231532fa1d404f ∷ 0xc014943027bfea67 ∷ 0x40231532fa1d404f ∷ 0xc014943027bfea67 ∷ [])
-    ∷ (0x3faeb851eb851eb9 ∷ 0x40252eecc7e9b716 ∷ 0xc00ff1232567dc5e ∷ 0x4024220fe1037bb3 ∷ 0xc0124660dd39ec4b ∷ [])
-    ∷ (0x4024220fe1037bb3 ∷ 0xc0124660dd39ec4b ∷ [])
-    ∷ (0x3ff68d99f65f56c7 ∷ 0x4005e88a9a4d2f92 ∷ 0x3fef1f9b2b2ffcca ∷ [])
-    ∷ (0 ∷ 0 ∷ []) ∷ (6 ∷ []) ∷ []
+    (0x40143d70a3d70a3c ∷ 0x40232787ab202897 ∷ 0xc011ac018143a4f7 ∷ 0x40232787ab202897 ∷ 0xc011ac018143a4f7 ∷ [])
+    ∷ (0x40145c28f5c28f5a ∷ 0x4024de29398383ab ∷ 0xc00b258e8b845b22 ∷ 0x402402d87251d621 ∷ 0xc00f3ec8c705d289 ∷ [])
+    ∷ (0x402402d87251d621 ∷ 0xc00f3ec8c705d289 ∷ [])
+    ∷ (0x4004886c2bea2dcd ∷ 0x40153f3ee778e4eb ∷ 0x400d2e7d6d94e851 ∷ [])
+    ∷ (0x40145c28f5c28f5a ∷ 0x3faeb851eb851eb8 ∷ [])
+    ∷ (0 ∷ 0 ∷ []) ∷ (9 ∷ []) ∷ []
 
-pub lorenz-agrees : (answer-bits (leading 2 (estimate lorenz 3 (room 14 3 3))) ≡ two-rates) × (answer-bits (estimate lorenz 2 (room 10 2 3)) ≡ two-rates)
+pub lorenz-agrees : (answer-bits (leading 2 (estimate lorenz 3 (lengths 14 3 3))) ≡ two-rates) × (answer-bits (estimate lorenz 2 (lengths 10 2 3)) ≡ two-rates)
 unfolding estimate lorenz root log mix unit dot-from add sub mul div neg round ofInt le lt eq toBits ofBits
 lorenz-agrees = (refl, refl)
 
@@ -90,11 +101,33 @@ shear =
       state = whole 0 ∷ whole 0 ∷ [];
     }
 
-pub shear-2 : answer-bits (estimate shear 2 (room 5 2 2)) ≡ (14 ∷ 1 ∷ 0 ∷ 1 ∷ []) ∷ []
+pub shear-2 : answer-bits (estimate shear 2 (lengths 5 2 2)) ≡ (14 ∷ 1 ∷ 0 ∷ 1 ∷ []) ∷ (0 ∷ 0 ∷ []) ∷ []
 unfolding estimate shear root log mix unit dot-from add sub mul div neg round ofInt le lt eq toBits ofBits
 shear-2 = refl
 
-pub shear-1 : answer-bits (estimate shear 1 (room 3 1 2)) ≡
-    (0x4018000000000000 ∷ 0x40473fbd3b2d77cd ∷ 0x40473fbd3b2d77cd ∷ []) ∷ (0x40473fbd3b2d77cd ∷ []) ∷ (0 ∷ 0 ∷ []) ∷ (0 ∷ []) ∷ (1 ∷ []) ∷ []
+pub shear-1 : answer-bits (estimate shear 1 (lengths 3 1 2)) ≡
+    (0x4018000000000000 ∷ 0x40473fbd3b2d77cd ∷ 0x40473fbd3b2d77cd ∷ []) ∷ (0x40473fbd3b2d77cd ∷ []) ∷ (0 ∷ 0 ∷ []) ∷ (0x4018000000000000 ∷ 0x4018000000000000 ∷ []) ∷ (0 ∷ []) ∷ (1 ∷ []) ∷ []
 unfolding estimate shear root log mix unit dot-from add sub mul div neg round ofInt le lt eq toBits ofBits
 shear-1 = refl
+
+-- ---- faint counts: 2 ^ -961 is below the mark, 2 ^ -960 is not
+
+pub faint-at : zip (faint-or-not euclidean) (3 ∷ 5 ∷ []) (fin false 1 (negsuc 960) ∷ fin false 1 (negsuc 959) ∷ []) ≡ 4 ∷ 5 ∷ []
+unfolding zip lt
+faint-at = refl
+
+-- ---- settings
+
+abbrev built-settings : BenettinConfig
+built-settings = record { «top_k» = 3; «step_size» = half; «steps_per_window» = 10; windows = 200; «transient_windows» = 0; seed = 0x4c59_4150_554e_4f56 }
+
+-- K 3, h 0.5, 10 steps, 200 windows; then a count at its limit and one above it
+pub settings-built : (configured 3 half 10 200 ≡ value built-settings)
+    × (refusal-in (configured 3 half 16777216 200) ≡ none) × (configured 3 half 10 16777217 ≡ refused (refuse 5 1)) × (configured 0 half 0 0 ≡ refused (refuse 1 0))
+unfolding configured first-failing lt
+settings-built = (refl, refl, refl, refl)
+
+pub settings-changed :
+    (with-warm-up 7 built-settings ≡ record { «top_k» = 3; «step_size» = half; «steps_per_window» = 10; windows = 200; «transient_windows» = 7; seed = 0x4c59_4150_554e_4f56 })
+    × (with-seed 9 built-settings ≡ record { «top_k» = 3; «step_size» = half; «steps_per_window» = 10; windows = 200; «transient_windows» = 0; seed = 9 })
+settings-changed = (refl, refl)

@@ -16,6 +16,12 @@ ghost use Rattle.benettin.specs.Estimate as Spec;
 use error::LyapunovError;
 use error::Outcome;
 
+// The most that each of the three counts may be: 2^24.
+pub const COUNT_LIMIT: u64 = 16777216;
+
+// The seed of settings that name none.
+pub const DEFAULT_SEED: u64 = 0x4c59_4150_554e_4f56;
+
 // The settings of a run. Nothing is promised of the fields: a run tests them.
 pub struct BenettinConfig {
     pub top_k: usize,
@@ -53,13 +59,13 @@ fn validate_limits(steps: u64, windows: u64, warm_up: u64) -> Outcome
     if windows == 0 {
         return Outcome::Refused(LyapunovError::ZeroWindows);
     }
-    if 16777216 < steps {
+    if COUNT_LIMIT < steps {
         return Outcome::Refused(LyapunovError::CountAboveLimit(0));
     }
-    if 16777216 < windows {
+    if COUNT_LIMIT < windows {
         return Outcome::Refused(LyapunovError::CountAboveLimit(1));
     }
-    if 16777216 < warm_up {
+    if COUNT_LIMIT < warm_up {
         return Outcome::Refused(LyapunovError::CountAboveLimit(2));
     }
     Outcome::Accepted
@@ -105,7 +111,7 @@ impl BenettinConfig {
             steps_per_window,
             windows,
             transient_windows: 0,
-            seed: 0x4c59_4150_554e_4f56,
+            seed: DEFAULT_SEED,
         })
     }
 

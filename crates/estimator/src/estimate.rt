@@ -97,7 +97,7 @@ pub fn estimate_largest(
         steps_per_window,
         windows,
         transient_windows: 0,
-        seed: 0x4c59_4150_554e_4f56,
+        seed: benettin::DEFAULT_SEED,
     };
     estimate_spectrum(system, matrix, state, config, rows, exponents, final_state)
 }
