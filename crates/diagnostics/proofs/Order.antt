@@ -13,6 +13,7 @@ use borrow.Author.Tests.{eq-eqb, eqb-true}
 use Rattle.floats.specs.TotalOrder.{rank}
 use Rattle.floats.proofs.Sign.{either}
 use Rattle.diagnostics.specs.Sorting.{upper, lower, insert, insert-each, descending, All, Descending, one-if, occurrences, SameFloats, Binary64}
+use Rattle.diagnostics.specs.OrderedCopy.{CopyInOrder, OnlyCopy}
 use Rattle.diagnostics.proofs.Insertion.{insert-length}
 
 -- ---- what holds of every entry still does in the ordered copy
@@ -112,7 +113,7 @@ insert-each-occurrences b done (x ∷ xs) =
     let n = occurrences-cons b x xs in
     omega arith
 
-pub descending-same : (xs : List Float) → SameFloats (descending xs) xs
+descending-same : (xs : List Float) → SameFloats (descending xs) xs
 unfolding descending
 descending-same xs b =
     let h = insert-each-occurrences b [] xs in
@@ -186,5 +187,8 @@ one-order (y ∷ ys) (z ∷ zs) f g d e s =
         → count b y ≡ count b z → occurrences b (y ∷ ys) ≡ occurrences b (z ∷ zs) → occurrences b ys ≡ occurrences b zs
     rest-of b m n e s = omega arith
 
-pub descending-only : (xs ys : List Float) → Binary64 xs → Binary64 ys → Descending ys → SameFloats ys xs → ys ≡ descending xs
+pub copy-in-order : CopyInOrder
+copy-in-order xs = (descending-ordered xs, descending-same xs)
+
+pub descending-only : OnlyCopy
 descending-only xs ys f g d s = one-order ys (descending xs) g (descending-all (λ x. T (fits binary64 x)) xs f) d (descending-ordered xs) (λ b. s b ∙ sym (descending-same xs b))

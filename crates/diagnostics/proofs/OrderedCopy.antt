@@ -9,6 +9,7 @@ use lib.Ieee.Scale.{finite}
 use Rattle.diagnostics.specs.Sorting.{descending, Binary64}
 use Rattle.diagnostics.specs.Dimension.{kaplan-yorke}
 use Rattle.diagnostics.specs.Rates.{refused-for, dimension}
+use Rattle.diagnostics.specs.OrderedCopy.{CopyDimension}
 use Rattle.diagnostics.proofs.Validation.{accepted, not-refused, all-finite, none-not-finite}
 use Rattle.diagnostics.proofs.Order.{descending-all, descending-length, descending-ordered, descending-only}
 
@@ -24,6 +25,6 @@ copy-accepted xs h =
     not-refused (descending xs)
     (record { some-given = λ z. a .some-given (sym n ∙ z); few = subst (λ (k : ℕ). k ≤ 256) (sym n) (a .few); finite = none-not-finite (descending xs) (descending-all (λ x. T (finite x)) xs (all-finite xs (a .finite))) })
 
-pub copy-dimension : (xs : List Float) → Binary64 xs → refused-for xs ≡ none → dimension (descending xs) ≡ dimension xs
+pub copy-dimension : CopyDimension
 unfolding dimension kaplan-yorke
 copy-dimension xs f h = rw (copy-accepted xs h, h, descending-twice xs f)

@@ -15,13 +15,13 @@ use lib.Ieee.Back.{round-whole}
 use lib.Ieee.Order.{round-mono}
 use lib.Ieee.Scale.{finite}
 use borrow.Author.Tests.{le-ltb, ne-eqb}
-use Rattle.error.specs.Refusal.{value}
 use Rattle.floats.specs.Arithmetic.{_⊕_, _⊘_, zero⁺, one}
 use Rattle.floats.specs.Magnitude.{magnitude}
 use Rattle.diagnostics.specs.Sorting.{descending}
 use Rattle.diagnostics.specs.Dimension.{stopped, walk, kaplan-yorke}
 use Rattle.diagnostics.specs.Rates.{refused-for, dimension}
 use Rattle.diagnostics.proofs.Validation.{accepted, given, Finite, all-finite}
+use Rattle.diagnostics.specs.Range.{Within, DimensionRange}
 use Rattle.diagnostics.proofs.Order.{descending-all, descending-length}
 use Rattle.floats.proofs.Sign.{Sign, round-sign}
 use Rattle.diagnostics.proofs.Sums.{clash, PartialSum, add-no-nan, no-significand, round-zero, sum-below, partial-none}
@@ -98,10 +98,6 @@ quotient-in-unit (fin s m e) (fin t n d) g f h =
     subst UnitInterval (sym (div-rounded s m e n d (k .1))) (round-in-unit s a b z (k .1))
 
 -- ---- index + that
--- x is a float from 0 to n
-abbrev pub Within : Float → ℕ → Type 0
-Within x n = T (le zero⁺ x) × T (le x (ofInt binary64 (pos n)))
-
 zero-rounded : round binary64 false 0 1 ≡ zero⁺
 unfolding round
 zero-rounded = refl
@@ -168,7 +164,7 @@ zero-sum : PartialSum zero⁺
 unfolding lt isNan
 zero-sum = (tt, refl)
 
-pub dimension-within : (xs : List Float) (d : Float) → dimension xs ≡ value d → Within d (length xs)
+pub dimension-within : DimensionRange
 unfolding dimension kaplan-yorke
 dimension-within xs d h =
     let g = given (refused-for xs) (walk 0 zero⁺ (descending xs)) d h in

@@ -1,9 +1,9 @@
 // The Kaplan-Yorke dimension and the Kolmogorov-Sinai entropy of a list of Lyapunov exponents (source: diagnostics.rs).
 //
 // Each public function takes any slice and equals a definition of specs/: the value, or the refusal 20, 21 or 22.
-// proofs/ has the theorems on the definitions: the ordered copy is in order, holds the same floats equally often and is
-// the only such list (Order); the dimension lies from 0 to the count (Range); the ordered copy has the same dimension
-// (OrderedCopy). Start with specs/Rates.antt; specs/Marked.antt has document 01's examples.
+// Start with specs/Rates.antt. specs/OrderedCopy.antt and specs/Range.antt state what is proved of the dimension: its
+// ordered copy is in order, holds the same floats equally often and is the only such list, and the value lies from 0 to
+// the count. specs/Marked.antt has document 01's examples.
 use error::LyapunovError;
 use error::Outcome;
 use floats::Position;

@@ -18,6 +18,7 @@ use Rattle.floats.proofs.Sign.{Sign, round-sign}
 use Rattle.floats.proofs.Zero.{refuted, zero-equal, nonzero-differs}
 use Rattle.gram_schmidt.specs.Orthonormalise.{collapsed}
 use Rattle.gram_schmidt.specs.GramSchmidt.{squared-length}
+use Rattle.gram_schmidt.specs.Collapse.{degenerate, CollapseMeaning}
 use Rattle.floats.specs.Arithmetic.{zero⁺, least-normal}
 use Rattle.floats.specs.Vector.{dot-from}
 use lib.Ieee.Scale.{finite}
@@ -66,10 +67,6 @@ sum-unsigned s [] p f = (p, f)
 sum-unsigned s (x ∷ w) p f =
     sum-unsigned (add binary64 s (mul binary64 x x)) w (add-unsigned s (mul binary64 x x) p (square-unsigned x)) (add-fits binary64 s (mul binary64 x x))
 
--- 0, or not finite
-abbrev pub degenerate : Float → Bool
-degenerate q = not (finite q) || eq q zero⁺
-
 -- a value above another one is not at most that
 strict : (s : Bool) (a b : ℕ) → below false b s a ≡ true → (below s a false b || level s a false b) ≡ false
 strict false a b h = let l : b < a = ltb-true b a h in rw (le-ltb a b (omega arith), ne-eqb a b (λ e. omega arith))
@@ -97,6 +94,6 @@ of-root (fin true m e) p f = absurd p
 of-root (fin false zero e) p f = rw (zero-low e, zero-equal false e)
 of-root (fin false (suc m) e) p f = let r = root-large f (ordinary m e) in rw (refuted (eq (fin false (suc m) e) zero⁺) (nonzero-differs false m e)) (above (root (fin false (suc m) e)) (r .0) (r .1))
 
-pub collapse-is : (w : List Float) → collapsed (root (squared-length w)) ≡ degenerate (squared-length w)
+pub collapse-is : CollapseMeaning
 unfolding round
 collapse-is w = let h = sum-unsigned zero⁺ w tt (round-fits binary64 false 0 1) in of-root (squared-length w) (h .0) (h .1)

@@ -2,7 +2,7 @@
 //
 // `modified_gram_schmidt` (source: estimator.rs) equals the definition of specs/GramSchmidt.antt for every input: its
 // answer, and every float left in both slices. specs/Orthonormalise.antt has the operations on one direction after the
-// other. proofs/Degenerate.antt shows that a collapse means a squared length of 0 or one that is not finite.
+// other. specs/Collapse.antt says what a collapse means: a squared length of 0 or one that is not finite.
 ghost use mathlib.Core.Path.{_≡_};
 ghost use Prim.Native.Nat.{_+_, _*_, _≤_, _<_};
 ghost use mathlib.Core.List.{map};

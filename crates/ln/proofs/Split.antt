@@ -9,7 +9,7 @@ use lib.IntN.{pos, negsuc, _-ℤ_}
 use lib.Dec.{T, ltb, ltb→lt, lt→ltb, nltb→le}
 use lib.Pow.{pow-pos, pow-add}
 use lib.Ieee.{Float, inf, fin, binary64, up, down, size, fits, le, lt, toBits, ofBits}
-use lib.Ieee.Bits.{ofBits-toBits, toBits-ofBits, nanBits-is}
+use lib.Ieee.Bits.{ofBits-fits, ofBits-toBits, toBits-ofBits, nanBits-is}
 use lib.Ieee.Fits.{and-l, down-pos}
 use lib.Ieee.Exact.{HasValue}
 use lib.Ieee.Positive.{num, den, value→cross, values-of-le}
@@ -18,6 +18,7 @@ use Rattle.floats.proofs.Pattern.{units-pattern, pattern-of, normal-value, no-n
 use Rattle.floats.proofs.Ordinary.{Ordinary, ordinary, ordinary-pattern}
 use Rattle.floats.specs.Arithmetic.{least-normal}
 use Rattle.ln.specs.Logarithm.{normal, moved, significand, power, Split}
+use Rattle.ln.specs.OneSplit.{SplitExists}
 use Rattle.ln.proofs.Normal.{normal-ordinary}
 
 -- ---- 2 ^ (n - 1023), where n + f = e + 1023
@@ -116,9 +117,9 @@ module _ (z : Float) (held : T (fits binary64 z)) (h : T (normal z)) where
       subst (λ (y : ℕ). HasValue (ofBits binary64 y) false ((2 ^ 52 + b % 2 ^ 52) * 2 ^ the-fields .f) U) (the-fields .of-significand)
       (normal-value (the-fields .f) (b % 2 ^ 52) (the-fields .significand-in) (mod-lt b (pow-pos 52)))
 
-  pub split-is : Split z (significand z) (power z)
+  split-at : Split z (significand z) (power z)
   unfolding power
-  split-is =
+  split-at =
       let w = high-word n (moved z) refl in
       record {
         least = subst (λ (y : ℕ). 0x3fe6a09e ≤ y / 2 ^ 32) (sym bits-significand) (w .0);
@@ -129,3 +130,7 @@ module _ (z : Float) (held : T (fits binary64 z)) (h : T (normal z)) where
             (value→cross (significand z) ((2 ^ 52 + b % 2 ^ 52) * 2 ^ the-fields .f) U value-significand)
             (power-of (moved z / 2 ^ 52) (the-fields .e) (the-fields .f) (the-fields .apart));
       }
+
+pub split-exists : SplitExists
+unfolding significand
+split-exists z held h = (ofBits-fits binary64 (moved z % 2 ^ 52 + 0x3fe6a09e * 2 ^ 32), split-at z held h)

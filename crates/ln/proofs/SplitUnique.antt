@@ -18,6 +18,7 @@ use Rattle.floats.proofs.Units.{U, value-clear}
 use Rattle.floats.proofs.OneForm.{same-value}
 use Rattle.floats.proofs.Pattern.{normal-value}
 use Rattle.ln.specs.Logarithm.{Split}
+use Rattle.ln.specs.OneSplit.{SplitUnique}
 use Rattle.ln.proofs.Split.{last-first}
 
 -- ---- m is Y * 2 ^ 1021 units, with Y from C up to below 2 * C
@@ -123,8 +124,8 @@ too-far : (Y W a b : ℕ) → 0 < a → C ≤ W → Y < 2 * C → Y * a ≡ W * 
 too-far Y W a b A lo hi e h =
     not-le-of-lt hi (le-trans (mul-le-mul-left 2 lo) (le-of-mul-le-mul-right (le-trans (le-of-eq (mul-assoc 2 W a ∙ mul-left-comm 2 W a)) (le-trans (mul-le-mul-left W h) (le-of-eq (sym e)))) A))
 
-pub split-only : (z m w : Float) (k l : ℤ) → T (fits binary64 m) → T (fits binary64 w) → Split z m k → Split z w l → (m ≡ w) × (k ≡ l)
-split-only z m w k l f g s t =
+pub split-unique : SplitUnique
+split-unique z m w k l f g s t =
     let a = near z m k f s in
     let b = near z w l g t in
     let e = joint (num z * U) (a .Y) (b .Y) (2 ^ 1021) (up k) (down k) (up l) (down l) (den z) (pow-pos 1021) (den-pos z)

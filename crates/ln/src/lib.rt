@@ -1,8 +1,8 @@
 // The natural logarithm of a positive normal binary64 value, by document 01's list of operations.
 //
 // `ln` equals the definition of specs/Logarithm.antt for every input, and refuses (24) whatever is not positive, normal
-// and finite. proofs/Split.antt and proofs/SplitUnique.antt show that the sentence "write z = m * 2^k" has exactly one
-// solution, the one that the definition computes. Each constant stands once, in `series`.
+// and finite. specs/OneSplit.antt states that the sentence "write z = m * 2^k" has exactly one solution, the one that the
+// definition computes. Each constant stands once, in `series`.
 ghost use mathlib.Core.Path.{_≡_};
 ghost use lib.Dec.{T};
 ghost use Rattle.ln.specs.Logarithm as Spec;

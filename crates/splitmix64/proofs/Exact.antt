@@ -17,6 +17,7 @@ use lib.Ieee.Exact.{HasValue, round-exact}
 use lib.Ieee.Back.{round-whole}
 use lib.Ieee.Scale.{round-same}
 use Rattle.splitmix64.specs.Mix.{fraction, unit}
+use Rattle.splitmix64.specs.ExactDraw.{Exactly, ExactDraw}
 
 abbrev C : ℕ
 C = 2 ^ 52
@@ -62,10 +63,6 @@ exact-at s a h =
     (lt-of-lt-of-le (mul-lt-mul-of-pos-right h (pow-pos 1022)) (lit≤ {m = 2 ^ 53 * 2 ^ 1022} {n = 2 ^ 2098} tt))
     (sym (mul-assoc a (2 ^ 1022) C))
 
-abbrev pub Exactly : Float → ℤ → ℕ → Type 0
-Exactly x (pos a) c = HasValue x false a c
-Exactly x (negsuc a) c = HasValue x true (suc a) c
-
 abbrev pub Smaller : ℤ → Type 0
 Smaller (pos a) = a < 2 ^ 53
 Smaller (negsuc a) = suc a < 2 ^ 53
@@ -89,7 +86,7 @@ offset-smaller n h = go (ltb n C)
     go true = omega arith
     go false = omega arith
 
-pub unit-exact : (v : ℕ) → v < 2 ^ 64 → Exactly (unit v) (pos (v / 2 ^ 11) -ℤ pos C) C
+pub unit-exact : ExactDraw
 unfolding unit
 unit-exact v h = fraction-exact (pos (v / 2 ^ 11) -ℤ pos C) (offset-smaller (v / 2 ^ 11) (omega arith))
 

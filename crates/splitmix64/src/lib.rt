@@ -1,7 +1,7 @@
 // SplitMix64 (source: estimator.rs; also Vigna's public splitmix64.c), and the draw from -1 up to below 1.
 //
 // The generator goes in by value and comes back in the answer. Each function equals a definition of specs/Mix.antt for
-// every input, and proofs/Exact.antt shows that the draw is exactly (n - 2^52) / 2^52, with n the top 53 bits.
+// every input. specs/ExactDraw.antt states that the draw is exactly (n - 2^52) / 2^52, with n the top 53 bits, and its range.
 ghost use mathlib.Core.Path.{_≡_};
 ghost use Prim.Native.Nat.{_*_, _%_, _^_};
 ghost use Rattle.splitmix64.specs.Mix as Spec;

@@ -16,7 +16,8 @@ use lib.Ieee.Exact.{HasValue}
 use lib.Ieee.Nearest.{closest}
 use lib.Ieee.Order.{drop, kept}
 use lib.Ieee.Scale.{round-val}
-use Rattle.sqrt.specs.SquareRoot.{root, whole-root, Closest, IsRoot}
+use Rattle.sqrt.specs.SquareRoot.{root, whole-root, Closest}
+use Rattle.sqrt.specs.OneRoot.{RootIs}
 use Rattle.sqrt.proofs.Whole.{RootOf, square-even, whole-root-is}
 use Rattle.sqrt.proofs.Closest.{closest-of}
 use Rattle.floats.proofs.Units.{U, few-digits, under-end-of, some-of}
@@ -212,7 +213,7 @@ module _ (x : Float) (a j : ℕ) (vx : HasValue x false (a * 2 ^ j) U) (few : a 
         many : (z : ℕ) → 537 < z → 485 ≤ suc (z - 54)
         many z h = omega arith
 
-pub root-is : (x : Float) → T (fits binary64 x) → IsRoot x (root x)
+pub root-is : RootIs
 unfolding root
 root-is nan f = refl
 root-is (inf true) f = refl

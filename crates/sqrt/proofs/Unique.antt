@@ -8,7 +8,8 @@ use native.Mathlib.Decide.{decLe}
 use lib.Ieee.{Float, nan, inf, fin}
 use lib.Ieee.Positive.{num, den}
 use Rattle.floats.proofs.OneForm.{same-value, lt-of}
-use Rattle.sqrt.specs.SquareRoot.{sum-square, four-times, Closest, IsRoot}
+use Rattle.sqrt.specs.SquareRoot.{sum-square, four-times, Closest}
+use Rattle.sqrt.specs.OneRoot.{RootUnique}
 
 -- ---- not one above the other
 clash : (a b c d : ℕ) → a < b → c < d → d ≡ a → c ≡ b → ⊥
@@ -30,7 +31,7 @@ only-one x r q a b =
     not-lt a b h = elim (decLe b a) [ yes g ↦ g | no g ↦ absurd (h (lt-of-not-le g)) ]
 
 -- `IsRoot x` says what r is
-pub root-unique : (x r q : Float) → IsRoot x r → IsRoot x q → r ≡ q
+pub root-unique : RootUnique
 root-unique nan r q a b = a ∙ sym b
 root-unique (inf true) r q a b = a ∙ sym b
 root-unique (inf false) r q a b = a ∙ sym b

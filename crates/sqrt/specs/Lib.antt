@@ -1,3 +1,4 @@
--- What the contracts cite, what the standard asks, and document 01's marked examples.
+-- What the contracts cite, what the standard asks and what is proved of it, and document 01's marked examples.
 pub mod SquareRoot
+pub mod OneRoot
 pub mod Marked

@@ -1,8 +1,8 @@
 // IEEE 754's squareRoot on binary64, rounded to nearest, by whole numbers.
 //
 // `sqrt` equals the definition of specs/SquareRoot.antt for every input. That file also states what the standard asks of
-// a root, over whole numbers: proofs/Meets.antt shows that the definition meets it, proofs/Unique.antt that nothing else
-// does, and proofs/Positive.antt that the root of a positive finite value is finite and above 2^-1022.
+// a root, over whole numbers. specs/OneRoot.antt states that the definition meets it, that nothing else does, and that the
+// root of a positive finite value is finite and above 2^-1022.
 ghost use mathlib.Core.Path.{_≡_};
 ghost use Prim.Native.Nat.{_+_, _*_, _^_, _≤_, _<_};
 ghost use lib.Dec.{T};
