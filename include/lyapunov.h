@@ -1,7 +1,40 @@
 /*
  * lyapunov.h - Lyapunov exponents by Benettin's method.
  *
- * The C interface of the static library liblyapunov.a. C99 or later, or C++.
+ * The C interface of the static library liblyapunov.a. C99 or later, or C++11 or later.
+ *
+ * HOW TO USE IT
+ *
+ * A run takes a system, settings, a start state and memory for what it finds:
+ *
+ *     struct lyapunov_system lorenz = lyapunov_lorenz(10.0, 28.0, 8.0 / 3.0);
+ *     struct lyapunov_required_settings required;
+ *     required.top_k = 3;
+ *     required.step_size = 0.01;
+ *     required.steps_per_window = 10;
+ *     required.windows = 1000;
+ *     struct lyapunov_built built = lyapunov_build_settings(&required);
+ *     if (built.refusal.number != 0) puts(lyapunov_refusal_text(built.refusal.number));
+ *     built.settings = lyapunov_with_transient_windows(built.settings, 100);
+ *
+ *     double start[3] = {1.0, 1.0, 1.0}, rows[7000], exponents[3], end[3];
+ *     struct lyapunov_outputs outputs = lyapunov_no_outputs();
+ *     outputs.rows = lyapunov_lent(rows, 7000);
+ *     outputs.exponents = lyapunov_lent(exponents, 3);
+ *     outputs.final_state = lyapunov_lent(end, 3);
+ *     struct lyapunov_estimate estimate = lyapunov_spectrum(
+ *         &lorenz, lyapunov_lent_const(start, 3), &built.settings, &outputs);
+ *
+ * examples/lorenz.c is a whole program. The structs and the functions that take them stand at the
+ * end of this header; they are `static inline`, over the exported functions that come before them.
+ * Those take numbers and pointers alone, for other languages and for programs that call them
+ * already.
+ *
+ * LATER VERSIONS keep what this one has: exported functions keep their arguments and their meaning.
+ * Structs may get more fields. A program that makes them by the functions here, and sets and reads
+ * fields by name, compiles and means the same: a new setting starts as what a run does today, and a
+ * new output as one that is not lent. Names that begin with lyapunov_ and LYAPUNOV_ belong to this
+ * header.
  *
  * WHAT A CALL ANSWERS
  *
@@ -290,6 +323,343 @@ uint64_t lyapunov_ln(double x, double *out);
 uint64_t lyapunov_splitmix64_next(uint64_t state);
 uint64_t lyapunov_splitmix64_value(uint64_t state);
 double lyapunov_splitmix64_symmetric_unit(uint64_t value);
+
+/*
+ * STRUCTS OVER THE FUNCTIONS ABOVE
+ */
+
+/* A refusal: its number, 0 for none, and its place. */
+struct lyapunov_refusal {
+    uint64_t number;
+    uint64_t place;
+};
+
+/* A slice that is lent for writing, and one that is lent for reading: a pointer and a length in
+ * entries. To the functions below a slice at NULL is an empty one, whatever its length says. */
+struct lyapunov_slice {
+    double *at;
+    size_t length;
+};
+struct lyapunov_const_slice {
+    const double *at;
+    size_t length;
+};
+
+static inline struct lyapunov_slice lyapunov_lent(double *at, size_t length)
+{
+    struct lyapunov_slice slice;
+    slice.at = at;
+    slice.length = at == NULL ? 0 : length;
+    return slice;
+}
+
+static inline struct lyapunov_const_slice lyapunov_lent_const(const double *at, size_t length)
+{
+    struct lyapunov_const_slice slice;
+    slice.at = at;
+    slice.length = at == NULL ? 0 : length;
+    return slice;
+}
+
+/* A system with its parameters, see THE SYSTEM above. Make it by one of the four functions. */
+struct lyapunov_system {
+    uint64_t kind;
+    double p0, p1, p2;
+    size_t dimension;
+    struct lyapunov_const_slice matrix;
+};
+
+static inline struct lyapunov_system lyapunov_lorenz(double sigma, double rho, double beta)
+{
+    struct lyapunov_system system;
+    system.kind = LYAPUNOV_LORENZ;
+    system.p0 = sigma;
+    system.p1 = rho;
+    system.p2 = beta;
+    system.dimension = 3;
+    system.matrix = lyapunov_lent_const(NULL, 0);
+    return system;
+}
+
+static inline struct lyapunov_system lyapunov_rossler(double a, double b, double c)
+{
+    struct lyapunov_system system = lyapunov_lorenz(a, b, c);
+    system.kind = LYAPUNOV_ROSSLER;
+    return system;
+}
+
+static inline struct lyapunov_system lyapunov_van_der_pol(double mu)
+{
+    struct lyapunov_system system = lyapunov_lorenz(mu, 0.0, 0.0);
+    system.kind = LYAPUNOV_VAN_DER_POL;
+    system.dimension = 2;
+    return system;
+}
+
+/* The matrix has dimension * dimension entries, row by row. It is read by every call, so it must
+ * live as long as the system is used. */
+static inline struct lyapunov_system lyapunov_linear(
+    size_t dimension, struct lyapunov_const_slice matrix)
+{
+    struct lyapunov_system system = lyapunov_lorenz(0.0, 0.0, 0.0);
+    system.kind = LYAPUNOV_LINEAR;
+    system.dimension = dimension;
+    system.matrix = matrix;
+    return system;
+}
+
+/* The settings that have no default, see A RUN above. Set each of them by its name; later versions
+ * have no others. */
+struct lyapunov_required_settings {
+    size_t top_k;
+    double step_size;
+    uint64_t steps_per_window;
+    uint64_t windows;
+};
+
+/* The settings of a run. Make them by lyapunov_build_settings, which knows all defaults, and change
+ * a default by the functions below it. */
+struct lyapunov_settings {
+    struct lyapunov_required_settings required;
+    uint64_t transient_windows; /* default 0 */
+    uint64_t seed;              /* default LYAPUNOV_DEFAULT_SEED */
+};
+
+/* Settings, and what lyapunov_build_config says of them: refused by 1 to 5, or not. */
+struct lyapunov_built {
+    struct lyapunov_refusal refusal;
+    struct lyapunov_settings settings;
+};
+
+static inline struct lyapunov_built lyapunov_build_settings(
+    const struct lyapunov_required_settings *required)
+{
+    struct lyapunov_built built;
+    built.refusal.number = lyapunov_build_config(
+        required->top_k, required->step_size, required->steps_per_window, required->windows,
+        &built.refusal.place);
+    built.settings.required = *required;
+    built.settings.transient_windows = 0;
+    built.settings.seed = LYAPUNOV_DEFAULT_SEED;
+    return built;
+}
+
+/* The same settings with so many warm-up windows, or with another seed. The run tests them. */
+static inline struct lyapunov_settings lyapunov_with_transient_windows(
+    struct lyapunov_settings settings, uint64_t transient_windows)
+{
+    settings.transient_windows = transient_windows;
+    return settings;
+}
+
+static inline struct lyapunov_settings lyapunov_with_seed(
+    struct lyapunov_settings settings, uint64_t seed)
+{
+    settings.seed = seed;
+    return settings;
+}
+
+/* The length that a run's rows must have, where the settings are not refused. */
+static inline size_t lyapunov_rows_length(const struct lyapunov_settings *settings)
+{
+    return LYAPUNOV_ROWS_LENGTH(settings->required.top_k, settings->required.windows);
+}
+
+/* Where a run writes, see A RUN above. Make it by lyapunov_no_outputs, and lend each by its name. */
+struct lyapunov_outputs {
+    struct lyapunov_slice rows;
+    struct lyapunov_slice exponents;
+    struct lyapunov_slice final_state;
+};
+
+static inline struct lyapunov_outputs lyapunov_no_outputs(void)
+{
+    struct lyapunov_outputs outputs;
+    outputs.rows = outputs.exponents = outputs.final_state = lyapunov_lent(NULL, 0);
+    return outputs;
+}
+
+/* What a run answers beside its outputs. */
+struct lyapunov_estimate {
+    struct lyapunov_refusal refusal;
+    uint64_t finished_windows; /* measured ones: so many rows are written */
+    uint64_t steps;            /* that passed every test, warm-up included */
+    uint64_t faint_counts[LYAPUNOV_MAX_DIMENSION]; /* see FAINT COUNTS above */
+    double final_time;
+    double measured_time;
+};
+
+/* A row of a finished measured window. Each of the two lists has top_k exponents. */
+struct lyapunov_row {
+    double end_time;
+    const double *local_exponents;
+    const double *running_exponents;
+};
+
+/* Row `window`, from 0, of a run with these settings. It must be one that is written. */
+static inline struct lyapunov_row lyapunov_row_at(
+    const struct lyapunov_settings *settings, const struct lyapunov_outputs *outputs, size_t window)
+{
+    size_t top_k = settings->required.top_k;
+    const double *at = outputs->rows.at + LYAPUNOV_ROWS_LENGTH(top_k, window);
+    struct lyapunov_row row;
+    row.end_time = at[0];
+    row.local_exponents = at + 1;
+    row.running_exponents = at + 1 + top_k;
+    return row;
+}
+
+/* For the functions below: a slice as an exported function takes it, with a pointer that is not
+ * NULL. `nothing` stands in, and is neither read nor written. */
+static inline struct lyapunov_slice lyapunov_handed(struct lyapunov_slice slice, double *nothing)
+{
+    return slice.at == NULL ? lyapunov_lent(nothing, 0) : slice;
+}
+
+static inline struct lyapunov_const_slice lyapunov_handed_const(
+    struct lyapunov_const_slice slice, const double *nothing)
+{
+    return slice.at == NULL ? lyapunov_lent_const(nothing, 0) : slice;
+}
+
+/* For the functions below: what a run is handed as pointers, and its counts and times. */
+struct lyapunov_run {
+    double nothing;
+    struct lyapunov_const_slice matrix, state;
+    struct lyapunov_slice rows, exponents, final_state;
+    uint64_t counts[LYAPUNOV_COUNTS];
+    double times[LYAPUNOV_TIMES];
+};
+
+static inline void lyapunov_begin_run(
+    struct lyapunov_run *run, const struct lyapunov_system *system,
+    struct lyapunov_const_slice state, const struct lyapunov_outputs *outputs)
+{
+    run->nothing = 0.0;
+    run->matrix = lyapunov_handed_const(system->matrix, &run->nothing);
+    run->state = lyapunov_handed_const(state, &run->nothing);
+    run->rows = lyapunov_handed(outputs->rows, &run->nothing);
+    run->exponents = lyapunov_handed(outputs->exponents, &run->nothing);
+    run->final_state = lyapunov_handed(outputs->final_state, &run->nothing);
+}
+
+static inline struct lyapunov_estimate lyapunov_end_run(
+    const struct lyapunov_run *run, uint64_t number)
+{
+    struct lyapunov_estimate estimate;
+    size_t i;
+    estimate.refusal.number = number;
+    estimate.refusal.place = run->counts[LYAPUNOV_PLACE];
+    estimate.finished_windows = run->counts[LYAPUNOV_FINISHED];
+    estimate.steps = run->counts[LYAPUNOV_STEPS];
+    for (i = 0; i < LYAPUNOV_MAX_DIMENSION; i++)
+        estimate.faint_counts[i] = run->counts[LYAPUNOV_FAINT + i];
+    estimate.final_time = run->times[LYAPUNOV_FINAL_TIME];
+    estimate.measured_time = run->times[LYAPUNOV_MEASURED_TIME];
+    return estimate;
+}
+
+/* A run from a start time: lyapunov_estimate_spectrum_at. */
+static inline struct lyapunov_estimate lyapunov_spectrum_at(
+    const struct lyapunov_system *system, double time, struct lyapunov_const_slice state,
+    const struct lyapunov_settings *settings, const struct lyapunov_outputs *outputs)
+{
+    struct lyapunov_run run;
+    lyapunov_begin_run(&run, system, state, outputs);
+    return lyapunov_end_run(&run, lyapunov_estimate_spectrum_at(
+        system->kind, system->p0, system->p1, system->p2, system->dimension,
+        run.matrix.at, run.matrix.length, time, run.state.at, run.state.length,
+        settings->required.top_k, settings->required.step_size,
+        settings->required.steps_per_window, settings->required.windows,
+        settings->transient_windows, settings->seed,
+        run.rows.at, run.rows.length, run.exponents.at, run.exponents.length,
+        run.final_state.at, run.final_state.length, run.counts, run.times));
+}
+
+/* A run from time 0: lyapunov_estimate_spectrum. */
+static inline struct lyapunov_estimate lyapunov_spectrum(
+    const struct lyapunov_system *system, struct lyapunov_const_slice state,
+    const struct lyapunov_settings *settings, const struct lyapunov_outputs *outputs)
+{
+    struct lyapunov_run run;
+    lyapunov_begin_run(&run, system, state, outputs);
+    return lyapunov_end_run(&run, lyapunov_estimate_spectrum(
+        system->kind, system->p0, system->p1, system->p2, system->dimension,
+        run.matrix.at, run.matrix.length, run.state.at, run.state.length,
+        settings->required.top_k, settings->required.step_size,
+        settings->required.steps_per_window, settings->required.windows,
+        settings->transient_windows, settings->seed,
+        run.rows.at, run.rows.length, run.exponents.at, run.exponents.length,
+        run.final_state.at, run.final_state.length, run.counts, run.times));
+}
+
+/* A run from time 0 for the largest exponent, with the defaults: lyapunov_estimate_largest. The
+ * top_k of `required` is not read: it is 1. */
+static inline struct lyapunov_estimate lyapunov_largest(
+    const struct lyapunov_system *system, struct lyapunov_const_slice state,
+    const struct lyapunov_required_settings *required, const struct lyapunov_outputs *outputs)
+{
+    struct lyapunov_run run;
+    lyapunov_begin_run(&run, system, state, outputs);
+    return lyapunov_end_run(&run, lyapunov_estimate_largest(
+        system->kind, system->p0, system->p1, system->p2, system->dimension,
+        run.matrix.at, run.matrix.length, run.state.at, run.state.length,
+        required->step_size, required->steps_per_window, required->windows,
+        run.rows.at, run.rows.length, run.exponents.at, run.exponents.length,
+        run.final_state.at, run.final_state.length, run.counts, run.times));
+}
+
+/* One step of the state and of `count` directions: lyapunov_step. */
+static inline struct lyapunov_refusal lyapunov_step_system(
+    const struct lyapunov_system *system, double time, struct lyapunov_slice state,
+    struct lyapunov_slice tangents, size_t count, double step_size)
+{
+    double nothing = 0.0;
+    struct lyapunov_const_slice matrix = lyapunov_handed_const(system->matrix, &nothing);
+    struct lyapunov_slice moved = lyapunov_handed(state, &nothing);
+    struct lyapunov_slice directions = lyapunov_handed(tangents, &nothing);
+    struct lyapunov_refusal refusal;
+
+    refusal.number = lyapunov_step(
+        system->kind, system->p0, system->p1, system->p2, system->dimension,
+        matrix.at, matrix.length, time, moved.at, moved.length,
+        directions.at, directions.length, count, step_size, &refusal.place);
+    return refusal;
+}
+
+/* What a number means, in a sentence that lives as long as the program. */
+static inline const char *lyapunov_refusal_text(uint64_t number)
+{
+    static const char *const texts[] = {
+        "Nothing is refused.",
+        "No exponents are asked for.",
+        "The step size is not finite or not above 0.",
+        "A window has no steps.",
+        "There are no measured windows.",
+        "The steps per window, the windows or the warm-up windows are more than 16777216.",
+        "The time is not finite.",
+        "The system has dimension 0 or is of no known kind.",
+        "The dimension is above 16.",
+        "The matrix does not have dimension times dimension entries.",
+        "The state does not have as many entries as the dimension.",
+        "An entry of the start state is not finite.",
+        "More exponents are asked for than the system has dimensions.",
+        "An output is too short.",
+        "A direction collapsed: its squared length is 0 or not finite.",
+        "The duration of a window is not finite.",
+        "The state became not finite.",
+        "A direction became not finite.",
+        "The time became not finite.",
+        "The directions are more than 16 or do not fill their slice.",
+        "There are no exponents.",
+        "There are more than 256 exponents.",
+        "An exponent is not finite.",
+        "The number of bytes is not a multiple of 8.",
+        "The logarithm is of a number that is not positive, normal and finite.",
+    };
+    const uint64_t known = sizeof texts / sizeof *texts;
+    return number < known ? texts[number] : "No refusal has this number.";
+}
 
 #ifdef __cplusplus
 }

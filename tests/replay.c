@@ -474,7 +474,7 @@ int main(int count, char **arguments) {
     }
     free(line);
     fclose(file);
-    printf("%zu of %zu cases replayed (runs from time 0 too: %zu, for the largest too: %zu), %zu differ\n",
-           replayed, cases, by_spectrum, by_largest, differ);
+    printf("%zu of %zu cases replayed, %zu differ (runs from time 0 too: %zu, for the largest: %zu)\n",
+           replayed, cases, differ, by_spectrum, by_largest);
     return differ > 0 || cases == 0 || replayed != cases;
 }

@@ -1,6 +1,7 @@
 /* A wrong library, for tests/planted.sh: linked by --wrap around the functions of the header, it
- * calls the right one and then spoils what the variable WRONG names. "NAME before" and "NAME behind"
- * write there, "NAME changed" writes an entry, and "NAME kept" undoes what was written. */
+ * calls the right one and then spoils what the variable WRONG names. "NAME before" and
+ * "NAME behind" write there, "NAME changed" writes an entry, and "NAME kept" undoes what was
+ * written. */
 #define lyapunov_ln __real_lyapunov_ln
 #define lyapunov_modified_gram_schmidt __real_lyapunov_modified_gram_schmidt
 #define lyapunov_step __real_lyapunov_step

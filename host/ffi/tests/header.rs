@@ -58,11 +58,19 @@ fn bare_header() -> String {
     bare.lines().filter(code).collect::<Vec<_>>().join("\n")
 }
 
+/// The exported functions: their declarations begin a line, which an inline function's does not.
 fn of_header() -> BTreeMap<String, Signature> {
     let bare = bare_header();
-    let declared = bare.split(';').filter(|text| text.contains('('));
+    let declared = bare.match_indices("\n").filter_map(|(at, _)| {
+        let line = &bare[at + 1..];
+        let exported = ["uint64_t lyapunov_", "double lyapunov_"];
+        let (declared, _) = line.split_once(';')?;
+        exported
+            .iter()
+            .any(|head| line.starts_with(head))
+            .then_some(declared)
+    });
     let signature = |text: &str| {
-        let text = text.trim_start_matches(|mark: char| !mark.is_alphabetic());
         let (head, rest) = text.split_once('(').expect("arguments");
         let (arguments, _) = rest.split_once(')').expect("their end");
         let head = tidy(head);

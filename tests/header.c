@@ -1,0 +1,299 @@
+/*
+ * The structs of the header: what they answer equals what the exported functions answer, to the
+ * bit, on several systems; the builder's defaults and refusals; slices at NULL; every refusal's
+ * text. It is compiled as C99 and as C++11. Exit status 0, or 1 where something differs.
+ */
+#include "lyapunov.h"
+
+#include <stdio.h>
+#include <string.h>
+
+enum { MOST = 16, WINDOWS = 4, MOST_ROWS = WINDOWS * (1 + 2 * MOST) };
+
+static size_t checks = 0, failures = 0;
+
+static void check(int holds, const char *what, const char *which)
+{
+    checks += 1;
+    if (!holds) {
+        failures += 1;
+        printf("not so, %s: %s\n", which, what);
+    }
+}
+
+/* What a run leaves. All of it starts as the same bytes. */
+struct left {
+    double rows[MOST_ROWS], exponents[MOST], final_state[MOST], times[LYAPUNOV_TIMES];
+    uint64_t counts[LYAPUNOV_COUNTS], number;
+};
+
+/* A system as a struct, and its flat arguments. */
+struct trial {
+    const char *name;
+    struct lyapunov_system system;
+    uint64_t kind;
+    double p[3];
+    const double *matrix;
+    size_t matrix_len;
+    double state[MOST];
+    size_t dimension;
+    uint64_t steps, transient_windows, seed;
+};
+
+static struct lyapunov_required_settings required(size_t top_k, double step_size, uint64_t steps)
+{
+    struct lyapunov_required_settings settings;
+    settings.top_k = top_k;
+    settings.step_size = step_size;
+    settings.steps_per_window = steps;
+    settings.windows = WINDOWS;
+    return settings;
+}
+
+static struct lyapunov_settings settings_of(const struct trial *trial)
+{
+    struct lyapunov_required_settings needed = required(trial->dimension, 0.0625, trial->steps);
+    struct lyapunov_built built = lyapunov_build_settings(&needed);
+    built.settings =
+        lyapunov_with_transient_windows(built.settings, trial->transient_windows);
+    return lyapunov_with_seed(built.settings, trial->seed);
+}
+
+static struct lyapunov_outputs lent(struct left *left, size_t top_k, size_t dimension)
+{
+    struct lyapunov_outputs outputs = lyapunov_no_outputs();
+    memset(left, 0x5a, sizeof *left);
+    outputs.rows = lyapunov_lent(left->rows, LYAPUNOV_ROWS_LENGTH(top_k, WINDOWS));
+    outputs.exponents = lyapunov_lent(left->exponents, top_k);
+    outputs.final_state = lyapunov_lent(left->final_state, dimension);
+    return outputs;
+}
+
+static void keep(struct left *left, struct lyapunov_estimate estimate)
+{
+    left->number = estimate.refusal.number;
+    left->counts[LYAPUNOV_PLACE] = estimate.refusal.place;
+    left->counts[LYAPUNOV_FINISHED] = estimate.finished_windows;
+    left->counts[LYAPUNOV_STEPS] = estimate.steps;
+    memcpy(left->counts + LYAPUNOV_FAINT, estimate.faint_counts, sizeof estimate.faint_counts);
+    left->times[LYAPUNOV_FINAL_TIME] = estimate.final_time;
+    left->times[LYAPUNOV_MEASURED_TIME] = estimate.measured_time;
+}
+
+/* The arguments of a trial's system and of its outputs, one after the other. */
+#define SYSTEM_OF(t) \
+    (t)->kind, (t)->p[0], (t)->p[1], (t)->p[2], (t)->dimension, (t)->matrix, (t)->matrix_len
+#define OUTPUTS_OF(l, k, d) \
+    (l)->rows, LYAPUNOV_ROWS_LENGTH(k, WINDOWS), (l)->exponents, (k), (l)->final_state, (d), \
+        (l)->counts, (l)->times
+
+static void same(const struct left *a, const struct left *b, const char *what, const char *which)
+{
+    check(memcmp(a, b, sizeof *a) == 0, what, which);
+}
+
+/* The three runs by structs and by flat arguments. */
+static void runs(const struct trial *t)
+{
+    struct left by_struct, flat;
+    const size_t d = t->dimension;
+    const struct lyapunov_settings settings = settings_of(t);
+    const struct lyapunov_const_slice start = lyapunov_lent_const(t->state, d);
+    struct lyapunov_outputs outputs = lent(&by_struct, d, d);
+
+    keep(&by_struct, lyapunov_spectrum_at(&t->system, 2.5, start, &settings, &outputs));
+    lent(&flat, d, d);
+    flat.number = lyapunov_estimate_spectrum_at(
+        SYSTEM_OF(t), 2.5, t->state, d, d, 0.0625, t->steps, WINDOWS, t->transient_windows, t->seed,
+        OUTPUTS_OF(&flat, d, d));
+    check(flat.number == 0, "a run that is not refused", t->name);
+    check((flat.counts[LYAPUNOV_FAINT] > 0) == (t->steps == 270), "faint windows", t->name);
+    same(&by_struct, &flat, "lyapunov_spectrum_at", t->name);
+
+    outputs = lent(&by_struct, d, d);
+    keep(&by_struct, lyapunov_spectrum(&t->system, start, &settings, &outputs));
+    lent(&flat, d, d);
+    flat.number = lyapunov_estimate_spectrum(
+        SYSTEM_OF(t), t->state, d, d, 0.0625, t->steps, WINDOWS, t->transient_windows, t->seed,
+        OUTPUTS_OF(&flat, d, d));
+    same(&by_struct, &flat, "lyapunov_spectrum", t->name);
+
+    outputs = lent(&by_struct, 1, d);
+    keep(&by_struct, lyapunov_largest(&t->system, start, &settings.required, &outputs));
+    lent(&flat, 1, d);
+    flat.number = lyapunov_estimate_largest(
+        SYSTEM_OF(t), t->state, d, 0.0625, t->steps, WINDOWS, OUTPUTS_OF(&flat, 1, d));
+    same(&by_struct, &flat, "lyapunov_largest", t->name);
+}
+
+static void rows(const struct trial *t)
+{
+    struct left left;
+    const size_t d = t->dimension;
+    const struct lyapunov_settings settings = settings_of(t);
+    const struct lyapunov_outputs outputs = lent(&left, d, d);
+    const struct lyapunov_estimate estimate = lyapunov_spectrum(
+        &t->system, lyapunov_lent_const(t->state, d), &settings, &outputs);
+    struct lyapunov_row row;
+    size_t w;
+
+    check(lyapunov_rows_length(&settings) == WINDOWS * (1 + 2 * d), "length of rows", t->name);
+    check(estimate.finished_windows == WINDOWS, "all windows are finished", t->name);
+    for (w = 0; w < WINDOWS; w++) {
+        row = lyapunov_row_at(&settings, &outputs, w);
+        check(row.end_time == left.rows[w * (1 + 2 * d)], "end time", t->name);
+        check(row.local_exponents == left.rows + w * (1 + 2 * d) + 1, "locals", t->name);
+        check(row.running_exponents == left.rows + w * (1 + 2 * d) + 1 + d, "runnings", t->name);
+    }
+    check(memcmp(row.running_exponents, left.exponents, d * sizeof(double)) == 0,
+          "the last running exponents are the exponents", t->name);
+}
+
+static void steps(const struct trial *t)
+{
+    double state[2][MOST], tangents[2][MOST];
+    struct lyapunov_refusal refusal;
+    uint64_t number, place = 77;
+    const size_t d = t->dimension;
+    size_t i;
+
+    for (i = 0; i < 2; i++) {
+        memcpy(state[i], t->state, sizeof state[i]);
+        memcpy(tangents[i], t->state, sizeof tangents[i]);
+    }
+    refusal = lyapunov_step_system(&t->system, 0.0, lyapunov_lent(state[0], d),
+                                   lyapunov_lent(tangents[0], d), 1, 0.25);
+    number = lyapunov_step(SYSTEM_OF(t), 0.0, state[1], d, tangents[1], d, 1, 0.25, &place);
+    check(number == 0 && refusal.number == number && refusal.place == place, "step", t->name);
+    check(memcmp(state[0], state[1], sizeof state[0]) == 0, "the state of a step", t->name);
+    check(memcmp(tangents[0], tangents[1], sizeof tangents[0]) == 0, "its direction", t->name);
+    refusal = lyapunov_step_system(&t->system, 0.0, lyapunov_lent(NULL, d),
+                                   lyapunov_lent(NULL, d), 0, 0.25);
+    check(refusal.number == 10 && refusal.place == 0, "no state to step", t->name);
+}
+
+/* Slices at NULL are empty ones. */
+static void empty(const struct trial *t)
+{
+    const struct lyapunov_settings settings = settings_of(t);
+    const struct lyapunov_const_slice start = lyapunov_lent_const(t->state, t->dimension);
+    struct left left;
+    struct lyapunov_outputs outputs = lent(&left, t->dimension, t->dimension);
+    struct lyapunov_outputs none = lyapunov_no_outputs();
+    struct lyapunov_refusal refusal;
+
+    refusal = lyapunov_spectrum(&t->system, start, &settings, &none).refusal;
+    check(refusal.number == 13 && refusal.place == 0, "no outputs", t->name);
+    refusal = lyapunov_spectrum(&t->system, lyapunov_lent_const(NULL, t->dimension), &settings,
+                                &outputs).refusal;
+    check(refusal.number == 10 && refusal.place == 0, "no start state", t->name);
+    outputs.final_state.at = NULL;
+    refusal = lyapunov_spectrum(&t->system, start, &settings, &outputs).refusal;
+    check(refusal.number == 13 && refusal.place == 2, "no final state", t->name);
+    outputs.exponents = lyapunov_lent(NULL, 99);
+    refusal = lyapunov_spectrum_at(&t->system, 0.0, start, &settings, &outputs).refusal;
+    check(refusal.number == 13 && refusal.place == 1, "no exponents", t->name);
+    outputs.rows = lyapunov_lent(NULL, 99);
+    refusal = lyapunov_largest(&t->system, start, &settings.required, &outputs).refusal;
+    check(refusal.number == 13 && refusal.place == 0, "no rows", t->name);
+}
+
+static void systems(void)
+{
+    static const double turning[9] = {-0.5, 1.0, 0.0, -1.0, 0.25, 0.125, 0.0, -2.0, 0.75};
+    /* A step shrinks it the most, so that 270 of them make it faint. */
+    static const double shrinking[1] = {-1.596 / 0.0625};
+    const double none[1] = {0.0};
+    const struct trial trials[] = {
+        {"Lorenz", lyapunov_lorenz(10.0, 28.0, 8.0 / 3.0),
+         LYAPUNOV_LORENZ, {10.0, 28.0, 8.0 / 3.0}, none, 0, {1.0, 1.0, 1.0}, 3, 3, 2, 7},
+        {"Rossler", lyapunov_rossler(0.2, 0.25, 5.7),
+         LYAPUNOV_ROSSLER, {0.2, 0.25, 5.7}, none, 0, {1.0, 2.0, 0.5}, 3, 5, 0, 0},
+        {"van der Pol", lyapunov_van_der_pol(1.5),
+         LYAPUNOV_VAN_DER_POL, {1.5, 3.0, 3.0}, none, 0, {2.0, 0.25}, 2, 3, 1, UINT64_MAX},
+        {"linear", lyapunov_linear(3, lyapunov_lent_const(turning, 9)),
+         LYAPUNOV_LINEAR, {1.0, 2.0, 3.0}, turning, 9, {1.0, -1.0, 0.5}, 3, 2, 5, 1},
+        {"faint", lyapunov_linear(1, lyapunov_lent_const(shrinking, 1)),
+         LYAPUNOV_LINEAR, {0.0, 0.0, 0.0}, shrinking, 1, {1.0}, 1, 270, 1, 1},
+    };
+    size_t i;
+    for (i = 0; i < sizeof trials / sizeof *trials; i++) {
+        runs(&trials[i]);
+        rows(&trials[i]);
+        steps(&trials[i]);
+        empty(&trials[i]);
+    }
+}
+
+static void builder(void)
+{
+    struct lyapunov_required_settings needed = required(3, 0.01, 10);
+    struct lyapunov_built built = lyapunov_build_settings(&needed);
+    struct lyapunov_settings changed;
+
+    check(built.refusal.number == 0 && built.refusal.place == 0, "accepted", "builder");
+    check(memcmp(&built.settings.required, &needed, sizeof needed) == 0, "as given", "builder");
+    check(built.settings.transient_windows == 0, "no warm-up windows", "builder");
+    check(built.settings.seed == LYAPUNOV_DEFAULT_SEED, "the default seed", "builder");
+    changed = lyapunov_with_transient_windows(built.settings, 9);
+    check(changed.transient_windows == 9 && changed.seed == LYAPUNOV_DEFAULT_SEED
+              && memcmp(&changed.required, &needed, sizeof needed) == 0, "warm-up", "builder");
+    changed = lyapunov_with_seed(built.settings, 9);
+    check(changed.seed == 9 && changed.transient_windows == 0
+              && memcmp(&changed.required, &needed, sizeof needed) == 0, "seed", "builder");
+}
+
+static void refused(struct lyapunov_required_settings needed, uint64_t number, uint64_t place)
+{
+    const struct lyapunov_built built = lyapunov_build_settings(&needed);
+    check(built.refusal.number == number && built.refusal.place == place,
+          lyapunov_refusal_text(number), "builder");
+}
+
+static void refused_settings(void)
+{
+    struct lyapunov_required_settings needed = required(0, 0.01, 10);
+    refused(needed, 1, 0);
+    refused(required(1, -0.0, 10), 2, 0);
+    needed = required(1, 0.01, 10);
+    needed.steps_per_window = 0;
+    refused(needed, 3, 0);
+    needed.steps_per_window = LYAPUNOV_MAX_COUNT + UINT64_C(1);
+    refused(needed, 5, 0);
+    needed.steps_per_window = LYAPUNOV_MAX_COUNT;
+    refused(needed, 0, 0);
+    needed.windows = 0;
+    refused(needed, 4, 0);
+    needed.windows = LYAPUNOV_MAX_COUNT + UINT64_C(1);
+    refused(needed, 5, 1);
+}
+
+/* Each number has a sentence of its own. */
+static void texts(void)
+{
+    const char *unknown = lyapunov_refusal_text(25);
+    uint64_t i, j;
+    for (i = 0; i <= 24; i++) {
+        const char *text = lyapunov_refusal_text(i);
+        check(strlen(text) > 10 && text[strlen(text) - 1] == '.', text, "a sentence");
+        check(strcmp(text, unknown) != 0, text, "a known number");
+        for (j = 0; j < i; j++)
+            check(strcmp(text, lyapunov_refusal_text(j)) != 0, text, "another text");
+    }
+    check(strcmp(unknown, "No refusal has this number.") == 0, unknown, "25");
+    check(lyapunov_refusal_text(UINT64_MAX) == unknown, unknown, "the largest number");
+    check(strstr(lyapunov_refusal_text(14), "collapsed") != NULL, "collapse", "14");
+    check(strstr(lyapunov_refusal_text(21), "256") != NULL, "rates", "21");
+    check(strstr(lyapunov_refusal_text(24), "logarithm") != NULL, "logarithm", "24");
+}
+
+int main(void)
+{
+    systems();
+    builder();
+    refused_settings();
+    texts();
+    printf("%lu checks of the header's structs, %lu failed\n", (unsigned long)checks,
+           (unsigned long)failures);
+    return failures > 0;
+}
