@@ -1,6 +1,5 @@
 #!/usr/bin/env bash
-# Compiles the example with the header and the archive, and runs it; the header is compiled as C++
-# too. Usage: examples/run.sh ARCHIVE
+# Compiles the example with the header and the archive, and runs it. Usage: examples/run.sh ARCHIVE
 set -euo pipefail
 
 if [ $# -ne 1 ] || [ ! -f "$1" ]; then
@@ -16,10 +15,3 @@ cc=${CC:-cc}
 "$cc" -std=c99 -pedantic -Wall -Wextra -Werror -O2 -I "$root/include" \
     "$root/examples/lorenz.c" "$archive" -o "$work/lorenz"
 "$work/lorenz"
-
-# The header alone, as C++.
-cxx=${CXX:-c++}
-if command -v "$cxx" >/dev/null; then
-    "$cxx" -std=c++11 -pedantic -Wall -Wextra -Werror -fsyntax-only \
-        -x c++ "$root/include/lyapunov.h"
-fi

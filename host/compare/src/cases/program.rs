@@ -76,6 +76,9 @@ impl Program {
         let _ = input.write_all(&self.0);
         drop(input);
         let output = child.wait_with_output().map_err(failed)?;
+        if !output.status.success() {
+            return Err(format!("{}: {}", path.display(), output.status));
+        }
         Ok(answer(&String::from_utf8_lossy(&output.stdout)))
     }
 }

@@ -113,6 +113,11 @@ impl Case for Build {
     /// for the same tests, and the builder too where the warm-up windows are not over.
     fn library(&self) -> Result<Answer, String> {
         let by_run = self.tested_by_run();
+        let mut with_other_k = *self;
+        with_other_k.0.top_k = 17;
+        if by_run.number == 5 && with_other_k.tested_by_run() != by_run {
+            return Err("the place of 5 hangs on K".to_string());
+        }
         if self.0.transient_windows > model::COUNT_LIMIT {
             return Ok(Answer::refusal(by_run.number, by_run.place));
         }
