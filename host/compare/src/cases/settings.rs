@@ -116,7 +116,7 @@ impl Case for Build {
         let mut with_other_k = *self;
         with_other_k.0.top_k = 17;
         if by_run.number == 5 && with_other_k.tested_by_run() != by_run {
-            return Err("the place of 5 hangs on K".to_string());
+            return Err("the place of 5 depends on K".to_string());
         }
         if self.0.transient_windows > model::COUNT_LIMIT {
             return Ok(Answer::refusal(by_run.number, by_run.place));
