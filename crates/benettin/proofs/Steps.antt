@@ -42,9 +42,9 @@ module _ (S : System) (m : List Float) (k : ℕ) (h : Float) (n i : ℕ) (time :
   unfolding advance-steps
   iterations-end g = let z : n - i ≡ 0 = omega arith in rw z
 
-  module _ (r : Outcome) (x′ t′ : List Float) (e : Step.left r x′ t′ ≡ stepped S m time x t k h) (g : i < n) where
+  module _ (r : Outcome) (x′ t′ : List Float) (e : Step.observed r x′ t′ ≡ stepped S m time x t k h) (g : i < n) where
     iteration : (o : Option Refusal) → reported r ≡ o
-        → advance-steps S m k h (n - i) i time x t ≡ after o (finite (time ⊕ h)) i time (Step.left r x′ t′) (advance-steps S m k h (n - (i + 1)) (i + 1) (time ⊕ h) x′ t′)
+        → advance-steps S m k h (n - i) i time x t ≡ after o (finite (time ⊕ h)) i time (Step.observed r x′ t′) (advance-steps S m k h (n - (i + 1)) (i + 1) (time ⊕ h) x′ t′)
     unfolding advance-steps
     iteration o f = let z : n - i ≡ suc (n - (i + 1)) = omega arith in rw (z, ← e, f)
 
@@ -63,7 +63,7 @@ module _ (A : Advanced) (norms : List Float) (a : Advance) (x t : List Float) (e
   pub window-refused : (ε : LyapunovError) → a .outcome ≡ Refused ε → windowed (observed a x t) norms ≡ orthonormalised-after (A .refusal) A norms
   window-refused ε f = rw (← e, f)
 
-  pub window-orthonormalised : (r : Outcome) (t′ norms′ : List Float) → a .outcome ≡ Accepted → GramSchmidt.left r t′ norms′ ≡ orthonormalised t (length x) norms
+  pub window-orthonormalised : (r : Outcome) (t′ norms′ : List Float) → a .outcome ≡ Accepted → GramSchmidt.observed r t′ norms′ ≡ orthonormalised t (length x) norms
       → windowed (record { refusal = reported r; steps = a .steps; time = a .time; state = x; tangents = t′ }) norms′ ≡ orthonormalised-after (A .refusal) A norms
   window-orthonormalised r t′ norms′ f g = rw (← e, f, ← g)
 

@@ -61,7 +61,7 @@ abbrev pub orthonormalised-after : Option Refusal → Advanced → List Float �
 orthonormalised-after (some r) A norms = windowed A norms
 orthonormalised-after none A norms =
     let g = orthonormalised (A .tangents) (length (A .state)) norms in
-    windowed (record { refusal = g .refusal; steps = A .steps; time = A .time; state = A .state; tangents = g .tangents }) (g .numbers)
+    windowed (record { refusal = g .refusal; steps = A .steps; time = A .time; state = A .state; tangents = g .tangents }) (g .norms)
 
 abbrev pub completed-window : System → List Float → BenettinConfig → Float → List Float → List Float → List Float → Windowed
 completed-window S m c start x t norms = let A = advanced-window S m c start x t in orthonormalised-after (A .refusal) A norms

@@ -1,4 +1,4 @@
--- One turn and the end of the loops that insert and that sort.
+-- One iteration and the end of the loops that insert and that sort.
 use mathlib.Core.Path.{_≡_, refl, sym, ap, _∙_, subst}
 use mathlib.Core.List.{List, [], _∷_, _++_, append-assoc}
 use Prim.Native.Nat.{ℕ, suc, _+_, _≤_, _<_}
@@ -73,7 +73,7 @@ insert-length x [] = refl
 insert-length x (y ∷ ys) = ap suc (insert-length (lower x y) ys)
 
 module _ (xs sorted : List Float) (i : ℕ) where
-  -- a turn: `next` is `sorted` with entry i of xs inserted into its first i entries
+  -- an iteration: `next` is `sorted` with entry i of xs inserted into its first i entries
   pub sort-on : (next : List Float) → i < length xs → i < length sorted → next ≡ insert (getD xs i nan) (take i sorted) ++ drop (i + 1) sorted
       → insert-each (take i sorted) (drop i xs) ≡ insert-each (take (i + 1) next) (drop (i + 1) xs)
   unfolding insert-each

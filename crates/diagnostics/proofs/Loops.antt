@@ -1,4 +1,4 @@
--- One turn and the end of the loops that walk and that sum.
+-- One iteration and the end of the loops that walk and that sum.
 use mathlib.Core.Path.{_≡_, refl}
 use mathlib.Core.Bool.{Bool, true, false, cond}
 use mathlib.Core.List.{List, _∷_}

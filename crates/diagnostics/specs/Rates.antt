@@ -8,13 +8,13 @@ use lib.Ieee.{Float}
 use Rattle.error.specs.declared.Refusal.{Refusal}
 use Rattle.error.specs.Refusal.{Answer, value, refused, refusal, refuse}
 use Rattle.floats.specs.Finite.{first-not-finite}
-use Rattle.diagnostics.specs.declared.Rate.{Rate}
-use Rattle.diagnostics.specs.declared.Rate.the-variants.{Value, Refused}
+use Rattle.diagnostics.specs.declared.Diagnostic.{Diagnostic}
+use Rattle.diagnostics.specs.declared.Diagnostic.the-variants.{Value, Refused}
 use Rattle.diagnostics.specs.Dimension.{kaplan-yorke}
 use Rattle.diagnostics.specs.Entropy.{kolmogorov-sinai}
 
--- what a rate of the code answers
-abbrev pub answer : Rate → Answer Float
+-- what a diagnostic of the code answers
+abbrev pub answer : Diagnostic → Answer Float
 answer (Value x) = value x
 answer (Refused e) = refused (refusal e)
 

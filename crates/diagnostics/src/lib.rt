@@ -18,7 +18,7 @@ ghost use Rattle.diagnostics.specs.Dimension as Dimension;
 ghost use Rattle.diagnostics.specs.Entropy as Entropy;
 ghost use Rattle.diagnostics.specs.Rates as Rates;
 
-pub enum Rate {
+pub enum Diagnostic {
     Value(f64),
     Refused(LyapunovError),
 }
@@ -49,7 +49,7 @@ fn insert(xs: &mut [f64], n: usize, x: f64)
     let mut k = 0;
     while k < n {
         let y = xs[k];
-        if floats::total_order(y) < floats::total_order(lower) {
+        if floats::total_cmp(y) < floats::total_cmp(lower) {
             xs[k] = lower;
             lower = y;
         }
@@ -108,16 +108,16 @@ fn dimension_in(sorted: &mut [f64], exponents: &[f64]) -> f64
     walk(sorted)
 }
 
-pub fn kaplan_yorke_dimension(exponents: &[f64]) -> Rate
+pub fn kaplan_yorke_dimension(exponents: &[f64]) -> Diagnostic
     ensures { λ r. ⌜ Rates.answer r ≡ Rates.dimension (now (exponents .entry)) ⌝ }
 {
     let outcome = validate_exponents(exponents);
     match outcome {
-        Outcome::Refused(error) => Rate::Refused(error),
+        Outcome::Refused(error) => Diagnostic::Refused(error),
         Outcome::Accepted => {
             let count = exponents.len();
             let mut sorted = [0.0; 256];
-            Rate::Value(dimension_in(&mut sorted[..count], exponents))
+            Diagnostic::Value(dimension_in(&mut sorted[..count], exponents))
         }
     }
 }
@@ -137,12 +137,12 @@ fn sum_positive(xs: &[f64]) -> f64
     sum
 }
 
-pub fn kolmogorov_sinai_entropy(exponents: &[f64]) -> Rate
+pub fn kolmogorov_sinai_entropy(exponents: &[f64]) -> Diagnostic
     ensures { λ r. ⌜ Rates.answer r ≡ Rates.entropy (now (exponents .entry)) ⌝ }
 {
     let outcome = validate_exponents(exponents);
     match outcome {
-        Outcome::Refused(error) => Rate::Refused(error),
-        Outcome::Accepted => Rate::Value(sum_positive(exponents)),
+        Outcome::Refused(error) => Diagnostic::Refused(error),
+        Outcome::Accepted => Diagnostic::Value(sum_positive(exponents)),
     }
 }

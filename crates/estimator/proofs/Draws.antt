@@ -56,14 +56,14 @@ room-ready k w n W v time p h g f x =
 
 -- the drawn basis, as the code leaves it
 module _ (S : System) (m : List Float) (h : Float) (n w k : ℕ) (x t₀ norms : List Float) (time : Float) (seed : ℕ) (F : Fitting S m h x t₀ norms k)
-    (r : Outcome) (t′ norms′ : List Float) (e : GramSchmidt.left r t′ norms′ ≡ orthonormalised (draws splitmix64 (length t₀) seed) (length x) norms) where
+    (r : Outcome) (t′ norms′ : List Float) (e : GramSchmidt.observed r t′ norms′ ≡ orthonormalised (draws splitmix64 (length t₀) seed) (length x) norms) where
   abbrev t : List Float
   t = draws splitmix64 (k * dim S) seed
 
   abbrev c₀ : RunState
   c₀ = initial splitmix64 (dim S) x time seed k
 
-  e′ : GramSchmidt.left r t′ norms′ ≡ orthonormalised t (dim S) norms
+  e′ : GramSchmidt.observed r t′ norms′ ≡ orthonormalised t (dim S) norms
   e′ =
       e
       ∙ ap (λ (j : ℕ). orthonormalised (draws splitmix64 j seed) (length x) norms) (F .tangents)

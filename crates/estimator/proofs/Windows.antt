@@ -24,7 +24,7 @@ use Rattle.system.specs.declared.System.{System}
 use Rattle.gram_schmidt.specs.Orthonormalise.{Basis, orthonormalise}
 use Rattle.gram_schmidt.specs.GramSchmidt as GramSchmidt
 use Rattle.gram_schmidt.specs.GramSchmidt.{euclidean, stored, orthonormalised, collapse-refusal, holds}
-use Rattle.gram_schmidt.proofs.Finished.{after, numbers-length}
+use Rattle.gram_schmidt.proofs.Finished.{after, norms-length}
 use Rattle.benettin.specs.Run.{Dynamics, RunState, RunRefusal, ok, refused, steps, unless-collapsed, reorthonormalise, with-basis, count-faint, window, _then_}
 use Rattle.benettin.specs.Estimate.{dynamics}
 use Rattle.benettin.specs.Window.{Advanced, Windowed, advance-steps, observed, windowed, orthonormalised-after, with-steps, status-of}
@@ -65,38 +65,38 @@ module _ (d k : ℕ) (t norms : List Float) (h : 0 < d) (g : k ≤ 16) (l : leng
       let e : length t / d ≡ k = ap (λ (n : ℕ). n / d) l ∙ mul-div-cancel k h in
       rw (e, ne-eqb d 0 (λ z. omega arith), le-ltb (length norms) (2 * k) (omega arith))
 
-  module _ (r : Outcome) (t′ norms′ : List Float) (e : GramSchmidt.left r t′ norms′ ≡ orthonormalised t d norms) where
+  module _ (r : Outcome) (t′ norms′ : List Float) (e : GramSchmidt.observed r t′ norms′ ≡ orthonormalised t d norms) where
     pub reported-is : reported r ≡ collapse-refusal (basis d k t .collapse)
     unfolding stored
-    reported-is = ap (λ (x : GramSchmidt.Left). x .refusal) (e ∙ stored-is)
+    reported-is = ap (λ (x : GramSchmidt.Orthonormalised). x .refusal) (e ∙ stored-is)
 
     module _ (f : r ≡ Accepted) where
       whole : basis d k t .collapse ≡ none
       whole = no-collapse (basis d k t .collapse) (sym (ap reported f) ∙ reported-is)
 
-      whole-is : GramSchmidt.left r t′ norms′ ≡ holds none (concat (basis d k t .directions) ++ drop (k * d) t) (basis d k t .logs ++ (basis d k t .reports ++ drop (k + k) norms))
+      whole-is : GramSchmidt.observed r t′ norms′ ≡ holds none (concat (basis d k t .directions) ++ drop (k * d) t) (basis d k t .logs ++ (basis d k t .reports ++ drop (k + k) norms))
       whole-is = e ∙ stored-is ∙ after d k t norms (omega arith) (omega arith) whole
 
       logs-length : length (basis d k t .logs) ≡ k
-      logs-length = numbers-length [] (chunks d k t) whole .0 ∙ chunks-length d k t
+      logs-length = norms-length [] (chunks d k t) whole .0 ∙ chunks-length d k t
 
       reports-length : length (basis d k t .reports) ≡ k
-      reports-length = numbers-length [] (chunks d k t) whole .1 ∙ chunks-length d k t
+      reports-length = norms-length [] (chunks d k t) whole .1 ∙ chunks-length d k t
 
       directions-are : chunks d k t′ ≡ basis d k t .directions
       directions-are =
           let n : length (basis d k t .directions) ≡ k = orthonormalise-whole euclidean [] (chunks d k t) .0 ∙ chunks-length d k t in
           let s : Sized d (basis d k t .directions) = orthonormalise-sized euclidean d [] (chunks d k t) (chunks-sized d k t (omega arith)) in
-          ap (λ (x : GramSchmidt.Left). chunks d k (x .tangents)) whole-is
+          ap (λ (x : GramSchmidt.Orthonormalised). chunks d k (x .tangents)) whole-is
           ∙ ap (λ (j : ℕ). chunks d j (concat (basis d k t .directions) ++ drop (k * d) t)) (sym n)
           ∙ chunks-concat d (basis d k t .directions) (drop (k * d) t) s
 
       logs-are : take k norms′ ≡ basis d k t .logs
-      logs-are = ap (λ (x : GramSchmidt.Left). take k (x .numbers)) whole-is ∙ take-at (basis d k t .logs) _ k logs-length
+      logs-are = ap (λ (x : GramSchmidt.Orthonormalised). take k (x .norms)) whole-is ∙ take-at (basis d k t .logs) _ k logs-length
 
       reports-are : take k (drop k norms′) ≡ basis d k t .reports
       reports-are =
-          ap (λ (x : GramSchmidt.Left). take k (drop k (x .numbers))) whole-is
+          ap (λ (x : GramSchmidt.Orthonormalised). take k (drop k (x .norms))) whole-is
           ∙ ap (take k) (drop-at (basis d k t .logs) (basis d k t .reports ++ drop (k + k) norms) k logs-length)
           ∙ take-at (basis d k t .reports) _ k reports-length
 
@@ -153,7 +153,7 @@ module _ (S : System) (m : List Float) (h : Float) (n k : ℕ) (x t norms : List
     made-by (some r) e = (ap (λ (w : Windowed). w .advanced .steps) e, ap (λ (w : Windowed). w .advanced .time) e, ap (λ (w : Windowed). w .advanced .state) e)
     made-by none e = (ap (λ (w : Windowed). w .advanced .steps) e, ap (λ (w : Windowed). w .advanced .time) e, ap (λ (w : Windowed). w .advanced .state) e)
 
-    orthonormalised-is : Ended none → GramSchmidt.left (a .outcome) t′ norms′ ≡ orthonormalised (A .tangents) (dim S) norms
+    orthonormalised-is : Ended none → GramSchmidt.observed (a .outcome) t′ norms′ ≡ orthonormalised (A .tangents) (dim S) norms
     orthonormalised-is e =
         ap (λ (w : Windowed). GramSchmidt.holds (w .advanced .refusal) (w .advanced .tangents) (w .norms)) e
         ∙ ap (λ (j : ℕ). orthonormalised (A .tangents) j norms) (follows .3 ∙ sym (fit .state))

@@ -29,7 +29,8 @@ use error::LyapunovError;
 use error::Outcome;
 use system::System;
 
-// What a run carries from window to window, beside the state, the directions and their numbers.
+// What a run carries from window to window, beside the state, the directions, their logarithms and squared
+// lengths.
 struct Progress {
     pub outcome: Outcome,
     pub windows: u64,

@@ -21,7 +21,7 @@ module _ {A : Type 0} where
 pub whole : {n : ℕ} (L o : List Float) (i : ℕ) → length L ≡ n → n ≤ i → i ≤ n → take i L ++ drop i o ≡ L ++ drop n o
 whole {n} L o i e h g = let f : i ≡ n = omega arith in rw (f, take-all n L (omega arith))
 
--- a turn of the loop, where X is under way
+-- an iteration of the loop, where X is under way
 pub fill-step : (L o X : List Float) (i : ℕ) (v : Float) → X ≡ take i L ++ drop i o → v ≡ getD L i nan → i < length L → i < length o
     → set X i v ≡ take (i + 1) L ++ drop (i + 1) o
 fill-step L o X i v e f h g = rw (e, f) (fill-next L o i nan h g)

@@ -54,13 +54,13 @@ module _ (xs : List Float) where
       go none = refl
       go (some j) = rw zero-add
 
-  moved : (i : ℕ) (o : Option ℕ) → Option·map (λ j. i + j) (Option·map suc o) ≡ Option·map (λ j. suc i + j) o
-  moved i none = refl
-  moved i (some j) = ap (λ (n : ℕ). some n) (omega arith)
+  shifted : (i : ℕ) (o : Option ℕ) → Option·map (λ j. i + j) (Option·map suc o) ≡ Option·map (λ j. suc i + j) o
+  shifted i none = refl
+  shifted i (some j) = ap (λ (n : ℕ). some n) (omega arith)
 
   pub from-next : (i : ℕ) → i < length xs → finite (getD xs i nan) ≡ true → from i xs ≡ from (i + 1) xs
   unfolding first-not-finite
-  from-next i h f = rw (add-one, drop-cons xs i nan h, f) (moved i (first-not-finite (drop (suc i) xs)))
+  from-next i h f = rw (add-one, drop-cons xs i nan h, f) (shifted i (first-not-finite (drop (suc i) xs)))
 
   pub from-here : (i : ℕ) → i < length xs → finite (getD xs i nan) ≡ false → from i xs ≡ some i
   unfolding first-not-finite

@@ -2,7 +2,8 @@
 //
 // Each function equals a definition of specs/ for every input. proofs/ holds the laws on the toolchain's model of
 // IEEE 754 that the crates above cite: values in units of the smallest one (Units), bit patterns (Pattern), one value
-// has one form (OneForm), comparisons with zero (Zero), and vectors in a slice (Vector). Start with specs/.
+// has one form (OneForm), comparisons with zero (Zero), lists entry by entry (Updated) and vectors in a slice
+// (Vector). Start with specs/.
 ghost use mathlib.Core.Path.{_≡_};
 ghost use lib.Ieee.{binary64, toBits};
 ghost use lib.Ieee.Scale.{finite};
@@ -54,8 +55,8 @@ pub fn to_bits(x: f64) -> u64
     }
 }
 
-// The place of x in the order of total_cmp.
-pub fn total_order(x: f64) -> u64
+// The place of x in the order of total_cmp, which compares two such places.
+pub fn total_cmp(x: f64) -> u64
     ensures { λ r. ⌜ r ≡ rank x ⌝ }
 {
     let b = to_bits(x);

@@ -15,7 +15,7 @@ use borrow.Rule.Slice.PartMut.{putMid}
 use Rattle.sqrt.specs.SquareRoot.{root}
 use Rattle.ln.specs.Logarithm.{log}
 use Rattle.gram_schmidt.specs.Orthonormalise.{Basis, orthonormalise, with-direction, orthogonalise, collapsed}
-use Rattle.gram_schmidt.specs.GramSchmidt.{euclidean, squared-length, cleared, normalised, divided, Left, holds, collapse-refusal, stored, orthonormalised}
+use Rattle.gram_schmidt.specs.GramSchmidt.{euclidean, squared-length, cleared, normalised, divided, Orthonormalised, holds, collapse-refusal, stored, orthonormalised}
 use Rattle.gram_schmidt.specs.declared.Normalised.{Normalised}
 use Rattle.gram_schmidt.specs.declared.Normalised.the-variants.{By, Collapsed}
 use Rattle.gram_schmidt.proofs.Loops.{orthogonalise-length}
@@ -110,11 +110,11 @@ abbrev pub counted : ℕ → Option ℕ → Option Refusal
 counted v none = none
 counted v (some i) = some (refuse 14 (v + i))
 
-abbrev pub from : ℕ → ℕ → List Float → List Float → ℕ → Basis → Left
-from d n xs numbers v b = holds (counted v (b .collapse)) (sets xs (v * d) (concat (b .directions))) (sets (sets numbers (n + v) (b .reports)) v (b .logs))
+abbrev pub from : ℕ → ℕ → List Float → List Float → ℕ → Basis → Orthonormalised
+from d n xs norms v b = holds (counted v (b .collapse)) (sets xs (v * d) (concat (b .directions))) (sets (sets norms (n + v) (b .reports)) v (b .logs))
 
-abbrev pub pending : ℕ → ℕ → List Float → List Float → ℕ → Left
-pending d n xs numbers v = from d n xs numbers v (orthonormalise euclidean (chunks d v xs) (chunks d (n - v) (drop (v * d) xs)))
+abbrev pub pending : ℕ → ℕ → List Float → List Float → ℕ → Orthonormalised
+pending d n xs norms v = from d n xs norms v (orthonormalise euclidean (chunks d v xs) (chunks d (n - v) (drop (v * d) xs)))
 
 same : {a b : Option Refusal} {xs ys os ps : List Float} → a ≡ b → xs ≡ ys → os ≡ ps → holds a xs os ≡ holds b ys ps
 same p q r = λ i. holds (p i) (q i) (r i)
@@ -127,24 +127,24 @@ counted-suc : (v : ℕ) (o : Option ℕ) → counted v (Option·map suc o) ≡ c
 counted-suc v none = refl
 counted-suc v (some i) = ap (λ (k : ℕ). some (refuse 14 k)) (omega arith)
 
-pub pending-start : (d n : ℕ) (xs numbers : List Float) → pending d n xs numbers 0 ≡ stored n xs numbers (orthonormalise euclidean [] (chunks d n xs))
+pub pending-start : (d n : ℕ) (xs norms : List Float) → pending d n xs norms 0 ≡ stored n xs norms (orthonormalise euclidean [] (chunks d n xs))
 unfolding stored chunks
-pending-start d n xs numbers = simp (zero-mul, add-zero, sub-zero, counted-zero)
+pending-start d n xs norms = simp (zero-mul, add-zero, sub-zero, counted-zero)
 
-pub pending-end : (d n : ℕ) (xs numbers : List Float) (v : ℕ) → n ≤ v → pending d n xs numbers v ≡ holds none xs numbers
+pub pending-end : (d n : ℕ) (xs norms : List Float) (v : ℕ) → n ≤ v → pending d n xs norms v ≡ holds none xs norms
 unfolding orthonormalise chunks concat
-pending-end d n xs numbers v h = let e : n - v ≡ 0 = omega arith in rw e
+pending-end d n xs norms v h = let e : n - v ≡ 0 = omega arith in rw e
 
-from-next : (d n : ℕ) (xs numbers : List Float) (v : ℕ) (u : List Float) (l q : Float) (b : Basis) → length u ≡ d
-    → from d n xs numbers v (grown u l q b) ≡ from d n (sets xs (v * d) u) (set (set numbers (n + v) q) v l) (v + 1) b
+from-next : (d n : ℕ) (xs norms : List Float) (v : ℕ) (u : List Float) (l q : Float) (b : Basis) → length u ≡ d
+    → from d n xs norms v (grown u l q b) ≡ from d n (sets xs (v * d) u) (set (set norms (n + v) q) v l) (v + 1) b
 unfolding concat
-from-next d n xs numbers v u l q b e =
+from-next d n xs norms v u l q b e =
     let e₁ : (v + 1) * d ≡ v * d + length u = rw (add-one, suc-mul, e) in
     let e₂ : n + (v + 1) ≡ suc (n + v) = omega arith in
     same (counted-suc v (b .collapse)) (rw e₁ (sets-append xs (v * d) u (concat (b .directions))))
-    (rw (e₂, add-one v) (ap (λ (o : List Float). sets o (suc v) (b .logs)) (set-sets (set numbers (n + v) q) (suc (n + v)) (b .reports) v l (omega arith))))
+    (rw (e₂, add-one v) (ap (λ (o : List Float). sets o (suc v) (b .logs)) (set-sets (set norms (n + v) q) (suc (n + v)) (b .reports) v l (omega arith))))
 
-module _ (d n : ℕ) (xs numbers : List Float) (v : ℕ) (h : v < n) (g : n * d ≤ length xs) where
+module _ (d n : ℕ) (xs norms : List Float) (v : ℕ) (h : v < n) (g : n * d ≤ length xs) where
   -- this direction, and those behind it
   rows : n * d ≡ v * d + d + (n - (v + 1)) * d
   rows = let e : n ≡ suc v + (n - (v + 1)) = omega arith in ap (λ (k : ℕ). k * d) e ∙ rw (add-mul, suc-mul)
@@ -154,22 +154,22 @@ module _ (d n : ℕ) (xs numbers : List Float) (v : ℕ) (h : v < n) (g : n * d 
   chunks-at = let e : n - v ≡ suc (n - (v + 1)) = omega arith in rw (e, drop-drop d (v * d) xs)
 
   pending-next : collapsed (root (squared-length (cleared d v xs))) ≡ false
-      → pending d n xs numbers v
-      ≡ pending d n (sets xs (v * d) (by-length (cleared d v xs))) (set (set numbers (n + v) (squared-length (cleared d v xs))) v (log (root (squared-length (cleared d v xs))))) (v + 1)
+      → pending d n xs norms v
+      ≡ pending d n (sets xs (v * d) (by-length (cleared d v xs))) (set (set norms (n + v) (squared-length (cleared d v xs))) v (log (root (squared-length (cleared d v xs))))) (v + 1)
   pending-next k =
       let w = cleared d v xs in
       let u = by-length w in
       let r = rows in
       let m : length u ≡ d = length-map w _ ∙ cleared-length d v xs (omega arith) in
       let e : (v + 1) * d ≡ v * d + d = rw (add-one, suc-mul) in
-      ap (from d n xs numbers v) (ap (orthonormalise euclidean (chunks d v xs)) chunks-at ∙ orthonormalise-next (chunks d v xs) _ _ w refl k)
-      ∙ from-next d n xs numbers v u (log (root (squared-length w))) (squared-length w) (orthonormalise euclidean (chunks d v xs ++ (u ∷ [])) (chunks d (n - (v + 1)) (drop (v * d + d) xs))) m
-      ∙ ap (from d n (sets xs (v * d) u) (set (set numbers (n + v) (squared-length w)) v (log (root (squared-length w)))) (v + 1))
+      ap (from d n xs norms v) (ap (orthonormalise euclidean (chunks d v xs)) chunks-at ∙ orthonormalise-next (chunks d v xs) _ _ w refl k)
+      ∙ from-next d n xs norms v u (log (root (squared-length w))) (squared-length w) (orthonormalise euclidean (chunks d v xs ++ (u ∷ [])) (chunks d (n - (v + 1)) (drop (v * d + d) xs))) m
+      ∙ ap (from d n (sets xs (v * d) u) (set (set norms (n + v) (squared-length w)) v (log (root (squared-length w)))) (v + 1))
       (ap₂ (orthonormalise euclidean)
       (sym (rw (add-one, chunks-snoc d v (sets xs (v * d) u), chunks-sets d v 0 xs (v * d) u (omega arith), part-sets xs (v * d) u d m (omega arith))))
       (sym (rw (e, drop-behind (v * d + d) xs (v * d) u (omega arith)))))
 
-  pending-stop : collapsed (root (squared-length (cleared d v xs))) ≡ true → pending d n xs numbers v ≡ holds (some (refuse 14 v)) (sets xs (v * d) (cleared d v xs)) numbers
+  pending-stop : collapsed (root (squared-length (cleared d v xs))) ≡ true → pending d n xs norms v ≡ holds (some (refuse 14 v)) (sets xs (v * d) (cleared d v xs)) norms
   unfolding concat
   pending-stop k =
       let w = cleared d v xs in
@@ -177,7 +177,7 @@ module _ (d n : ℕ) (xs numbers : List Float) (v : ℕ) (h : v < n) (g : n * d 
       let r = rows in
       let m : length w ≡ d = cleared-length d v xs (omega arith) in
       let z : length ys ≡ length xs = length-sets xs (v * d) w in
-      ap (from d n xs numbers v) (ap (orthonormalise euclidean (chunks d v xs)) chunks-at ∙ orthonormalise-stop (chunks d v xs) _ _ w refl k)
+      ap (from d n xs norms v) (ap (orthonormalise euclidean (chunks d v xs)) chunks-at ∙ orthonormalise-stop (chunks d v xs) _ _ w refl k)
       ∙ same (ap (λ (k : ℕ). some (refuse 14 k)) (add-zero v))
       (sets-append xs (v * d) w _
       ∙ rw (m, concat-chunks, ← drop-behind (v * d + d) xs (v * d) w (omega arith)) (sets-own ys (v * d + d) ((n - (v + 1)) * d) (omega arith)))
@@ -187,11 +187,11 @@ module _ (d n : ℕ) (xs numbers : List Float) (v : ℕ) (h : v < n) (g : n * d 
   w = cleared d v xs
 
   -- as the code has it: r is the answer for this direction, and ys the slice with what became of it
-  pub turn-by : (r : Normalised) (l q : Float) (ys : List Float) → r ≡ normalised (cleared d v xs) → r ≡ By l q → ys ≡ sets xs (v * d) (divided (cleared d v xs))
-      → pending d n xs numbers v ≡ pending d n ys (set (set numbers (n + v) q) v l) (v + 1)
-  turn-by r l q ys e f k = go (collapsed (root (squared-length w))) refl
+  pub iteration-by : (r : Normalised) (l q : Float) (ys : List Float) → r ≡ normalised (cleared d v xs) → r ≡ By l q → ys ≡ sets xs (v * d) (divided (cleared d v xs))
+      → pending d n xs norms v ≡ pending d n ys (set (set norms (n + v) q) v l) (v + 1)
+  iteration-by r l q ys e f k = go (collapsed (root (squared-length w))) refl
     where
-      go : (b : Bool) → collapsed (root (squared-length w)) ≡ b → pending d n xs numbers v ≡ pending d n ys (set (set numbers (n + v) q) v l) (v + 1)
+      go : (b : Bool) → collapsed (root (squared-length w)) ≡ b → pending d n xs norms v ≡ pending d n ys (set (set norms (n + v) q) v l) (v + 1)
       go true c = let x : r ≡ Collapsed = rw c at e in let z : _≡_ {A = ℕ} 0 1 = cc in absurd (omega arith)
       go false c =
           let x : r ≡ By (log (root (squared-length w))) (squared-length w) = rw c at e in
@@ -200,11 +200,11 @@ module _ (d n : ℕ) (xs numbers : List Float) (v : ℕ) (h : v < n) (g : n * d 
           let b : q ≡ squared-length w = cc in
           rw (y, a, b) (pending-next c)
 
-  pub turn-stop : (r : Normalised) (ys : List Float) → r ≡ normalised (cleared d v xs) → r ≡ Collapsed → ys ≡ sets xs (v * d) (divided (cleared d v xs))
-      → pending d n xs numbers v ≡ holds (some (refuse 14 v)) ys numbers
-  turn-stop r ys e f k = go (collapsed (root (squared-length w))) refl
+  pub iteration-stop : (r : Normalised) (ys : List Float) → r ≡ normalised (cleared d v xs) → r ≡ Collapsed → ys ≡ sets xs (v * d) (divided (cleared d v xs))
+      → pending d n xs norms v ≡ holds (some (refuse 14 v)) ys norms
+  iteration-stop r ys e f k = go (collapsed (root (squared-length w))) refl
     where
-      go : (b : Bool) → collapsed (root (squared-length w)) ≡ b → pending d n xs numbers v ≡ holds (some (refuse 14 v)) ys numbers
+      go : (b : Bool) → collapsed (root (squared-length w)) ≡ b → pending d n xs norms v ≡ holds (some (refuse 14 v)) ys norms
       go true c = let y : ys ≡ sets xs (v * d) w = rw c at k in rw y (pending-stop c)
       go false c =
           let x : r ≡ By (log (root (squared-length w))) (squared-length w) = rw c at e in
@@ -213,14 +213,14 @@ module _ (d n : ℕ) (xs numbers : List Float) (v : ℕ) (h : v < n) (g : n * d 
 
 -- ---- the answers before the loop
 
-pub refused-7 : (xs : List Float) (d : ℕ) (numbers : List Float) → d ≡ 0 → holds (some (refuse 7 0)) xs numbers ≡ orthonormalised xs d numbers
+pub refused-7 : (xs : List Float) (d : ℕ) (norms : List Float) → d ≡ 0 → holds (some (refuse 7 0)) xs norms ≡ orthonormalised xs d norms
 unfolding orthonormalised
-refused-7 xs d numbers e = rw (eq-eqb d 0 e)
+refused-7 xs d norms e = rw (eq-eqb d 0 e)
 
-pub refused-13 : (xs : List Float) (d : ℕ) (numbers : List Float) → (d ≡ 0 → ⊥) → length numbers / 2 < length xs / d → holds (some (refuse 13 0)) xs numbers ≡ orthonormalised xs d numbers
+pub refused-13 : (xs : List Float) (d : ℕ) (norms : List Float) → (d ≡ 0 → ⊥) → length norms / 2 < length xs / d → holds (some (refuse 13 0)) xs norms ≡ orthonormalised xs d norms
 unfolding orthonormalised
-refused-13 xs d numbers h g = rw (ne-eqb d 0 h, lt-ltb (length numbers) (2 * (length xs / d)) (omega arith))
+refused-13 xs d norms h g = rw (ne-eqb d 0 h, lt-ltb (length norms) (2 * (length xs / d)) (omega arith))
 
-pub begun : (xs : List Float) (d : ℕ) (numbers : List Float) → (d ≡ 0 → ⊥) → length xs / d ≤ length numbers / 2 → pending d (length xs / d) xs numbers 0 ≡ orthonormalised xs d numbers
+pub begun : (xs : List Float) (d : ℕ) (norms : List Float) → (d ≡ 0 → ⊥) → length xs / d ≤ length norms / 2 → pending d (length xs / d) xs norms 0 ≡ orthonormalised xs d norms
 unfolding orthonormalised
-begun xs d numbers h g = rw (ne-eqb d 0 h, le-ltb (length numbers) (2 * (length xs / d)) (omega arith)) (pending-start d (length xs / d) xs numbers)
+begun xs d norms h g = rw (ne-eqb d 0 h, le-ltb (length norms) (2 * (length xs / d)) (omega arith)) (pending-start d (length xs / d) xs norms)

@@ -1,4 +1,4 @@
--- For a caller: the two slices once every direction is finished. The directions and what was left over; the logarithms, the squared lengths, and the rest of numbers.
+-- For a caller: the two slices once every direction is finished. The directions and what was left over; the logarithms, the squared lengths, and the rest of `norms`.
 use Prim.Native.Nat.{ℕ, zero, suc, _+_, _*_, _≤_}
 use native.Mathlib.Omega.{arith}
 use mathlib.Core.Path.{_≡_, refl, sym, ap, _∙_}
@@ -43,12 +43,12 @@ unbroken : (o : Option ℕ) → Option·map suc o ≡ none → o ≡ none
 unbroken none e = refl
 unbroken (some i) e = let z : _≡_ {A = ℕ} 0 1 = cc in absurd (omega arith)
 
--- two numbers for each direction
-pub numbers-length : (done ts : List (List Float)) → orthonormalise euclidean done ts .collapse ≡ none
+-- a logarithm and a squared length for each direction
+pub norms-length : (done ts : List (List Float)) → orthonormalise euclidean done ts .collapse ≡ none
     → (length (orthonormalise euclidean done ts .logs) ≡ length ts) × (length (orthonormalise euclidean done ts .reports) ≡ length ts)
 unfolding orthonormalise
-numbers-length done [] e = (refl, refl)
-numbers-length done (t ∷ ts) e = go (numbers-length (done ++ (by-length (both done t) ∷ [])) ts) (collapsed (root (squared-length (both done t)))) refl
+norms-length done [] e = (refl, refl)
+norms-length done (t ∷ ts) e = go (norms-length (done ++ (by-length (both done t) ∷ [])) ts) (collapsed (root (squared-length (both done t)))) refl
   where
     go : (orthonormalise euclidean (done ++ (by-length (both done t) ∷ [])) ts .collapse ≡ none
         → (length (orthonormalise euclidean (done ++ (by-length (both done t) ∷ [])) ts .logs) ≡ length ts) × (length (orthonormalise euclidean (done ++ (by-length (both done t) ∷ [])) ts .reports) ≡ length ts))
@@ -67,23 +67,23 @@ numbers-length done (t ∷ ts) e = go (numbers-length (done ++ (by-length (both 
 pub sets-start : (w l : List Float) → length w ≤ length l → sets l 0 w ≡ w ++ drop (length w) l
 sets-start w l h = let z : 0 + length w ≡ length w = omega arith in sets-eq w l 0 (omega arith) ∙ rw z
 
-pub after : (d n : ℕ) (xs numbers : List Float) → n * d ≤ length xs → 2 * n ≤ length numbers
+pub after : (d n : ℕ) (xs norms : List Float) → n * d ≤ length xs → 2 * n ≤ length norms
     → orthonormalise euclidean [] (chunks d n xs) .collapse ≡ none
-    → stored n xs numbers (orthonormalise euclidean [] (chunks d n xs))
+    → stored n xs norms (orthonormalise euclidean [] (chunks d n xs))
     ≡ holds none (concat (orthonormalise euclidean [] (chunks d n xs) .directions) ++ drop (n * d) xs)
-    (orthonormalise euclidean [] (chunks d n xs) .logs ++ (orthonormalise euclidean [] (chunks d n xs) .reports ++ drop (n + n) numbers))
+    (orthonormalise euclidean [] (chunks d n xs) .logs ++ (orthonormalise euclidean [] (chunks d n xs) .reports ++ drop (n + n) norms))
 unfolding stored
-after d n xs numbers h g e =
+after d n xs norms h g e =
     let b = orthonormalise euclidean [] (chunks d n xs) in
-    let k = numbers-length [] (chunks d n xs) e in
+    let k = norms-length [] (chunks d n xs) e in
     let r : length (b .logs) ≡ n = k .0 ∙ chunks-length d n xs in
     let q : length (b .reports) ≡ n = k .1 ∙ chunks-length d n xs in
     let f : length (concat (b .directions)) ≡ n * d = concat-length [] (chunks d n xs) ∙ ap length (concat-chunks d n xs) ∙ length-take-le (n * d) xs h in
-    let z : length (sets numbers n (b .reports)) ≡ length numbers = length-sets numbers n (b .reports) in
+    let z : length (sets norms n (b .reports)) ≡ length norms = length-sets norms n (b .reports) in
     let x : sets xs 0 (concat (b .directions)) ≡ concat (b .directions) ++ drop (n * d) xs = sets-start (concat (b .directions)) xs (omega arith) ∙ rw f in
-    let y : sets (sets numbers n (b .reports)) 0 (b .logs) ≡ b .logs ++ (b .reports ++ drop (n + n) numbers) =
-    sets-start (b .logs) (sets numbers n (b .reports)) (omega arith) ∙ rw (r, sets-eq (b .reports) numbers n (omega arith), q) (ap (λ (o : List Float). b .logs ++ o) (behind n numbers (b .reports) (omega arith))) in
+    let y : sets (sets norms n (b .reports)) 0 (b .logs) ≡ b .logs ++ (b .reports ++ drop (n + n) norms) =
+    sets-start (b .logs) (sets norms n (b .reports)) (omega arith) ∙ rw (r, sets-eq (b .reports) norms n (omega arith), q) (ap (λ (o : List Float). b .logs ++ o) (behind n norms (b .reports) (omega arith))) in
     rw (e, x, y)
   where
-    behind : (n : ℕ) (numbers w : List Float) → n ≤ length numbers → drop n (take n numbers ++ w ++ drop (n + n) numbers) ≡ w ++ drop (n + n) numbers
-    behind n numbers w h = rw (append-assoc (take n numbers) w (drop (n + n) numbers)) (drop-at (take n numbers) (w ++ drop (n + n) numbers) n (length-take-le n numbers h))
+    behind : (n : ℕ) (norms w : List Float) → n ≤ length norms → drop n (take n norms ++ w ++ drop (n + n) norms) ≡ w ++ drop (n + n) norms
+    behind n norms w h = rw (append-assoc (take n norms) w (drop (n + n) norms)) (drop-at (take n norms) (w ++ drop (n + n) norms) n (length-take-le n norms h))

@@ -1,4 +1,4 @@
--- What the loops go by: one more turn, and the end. What is left to do is a function of the list as it is and of the index.
+-- What the loops go by: one more iteration, and the end. What is left to do is a function of the list as it is and of the index.
 use Prim.Native.Nat.{ℕ, suc, _+_, _-_, _*_, _≤_, _<_}
 use native.Mathlib.Nat.{suc-mul, zero-mul, sub-zero, add-zero, add-mul}
 use native.Mathlib.Numerals.{add-one}
@@ -17,11 +17,11 @@ use Rattle.floats.proofs.Vector.{chunks-sets}
 
 -- ---- a direction less a multiple of another one
 
--- the entry that turn i writes
+-- the entry that iteration i writes
 abbrev pub entry : Float → ℕ → ℕ → List Float → ℕ → Float
 entry p b t xs i = sub binary64 (getD xs (t + i) nan) (mul binary64 p (getD xs (b + i) nan))
 
--- the entries from turn i on
+-- the entries from iteration i on
 abbrev rest : Float → ℕ → ℕ → ℕ → List Float → ℕ → List Float
 rest p b t d xs i = subtract-projection p (drop i (part t d xs)) (drop i (part b d xs))
 
@@ -54,7 +54,7 @@ getD-before l j (x ∷ w) k h = getD-before (set l j x) (suc j) w k (omega arith
 abbrev pub summing : ℕ → ℕ → ℕ → List Float → Float → ℕ → Float
 summing n t d zs s i = dot-from s (part (n + i) (d - i) zs) (part (t + i) (d - i) zs)
 
--- zs is what the list is left as: nothing before the entry that turn i writes is written any more
+-- zs is what the list is left as: nothing before the entry that iteration i writes is written any more
 pub sum-next : (p : Float) (n b t d : ℕ) (xs zs : List Float) (s : Float) (i : ℕ) → i < d → n ≤ t → t + d ≤ length xs
     → zs ≡ subtracting p b t d (set xs (t + i) (entry p b t xs i)) (i + 1)
     → summing n t d zs s i ≡ summing n t d zs (add binary64 s (mul binary64 (getD (set xs (t + i) (entry p b t xs i)) (n + i) nan) (entry p b t xs i))) (i + 1)
@@ -87,18 +87,18 @@ orthogonalise-length z (b ∷ bs) v = orthogonalise-length z bs (subtract-projec
 abbrev pub orthogonalising : ℕ → ℕ → List Float → ℕ → List Float
 orthogonalising d v xs p = sets xs (v * d) (orthogonalise zero⁺ (chunks d (v - p) (drop (p * d) xs)) (part (v * d) d xs))
 
-abbrev pub turned : ℕ → ℕ → List Float → ℕ → List Float
-turned d v xs p =
+abbrev pub subtracted : ℕ → ℕ → List Float → ℕ → List Float
+subtracted d v xs p =
     let b = part (p * d) d xs in
     let t = part (v * d) d xs in
     subtract-projection (dot-from zero⁺ b t) t b
 
 pub orthogonalise-next : (d v : ℕ) (xs : List Float) (p : ℕ) → p < v → v * d + d ≤ length xs
-    → orthogonalising d v xs p ≡ orthogonalising d v (sets xs (v * d) (turned d v xs p)) (p + 1)
+    → orthogonalising d v xs p ≡ orthogonalising d v (sets xs (v * d) (subtracted d v xs p)) (p + 1)
 unfolding orthogonalise chunks
 orthogonalise-next d v xs p h g =
     let m = v - (p + 1) in
-    let w = turned d v xs p in
+    let w = subtracted d v xs p in
     let e₁ : v - p ≡ suc m = omega arith in
     let e₂ : (p + 1) * d ≡ p * d + d = rw (add-one, suc-mul) in
     let e₃ : v ≡ suc p + m = omega arith in
@@ -117,9 +117,9 @@ orthogonalise-end d v xs p h g =
 pub orthogonalise-start : (d v : ℕ) (xs : List Float) → orthogonalising d v xs 0 ≡ sets xs (v * d) (orthogonalise zero⁺ (chunks d v xs) (part (v * d) d xs))
 orthogonalise-start d v xs = simp (zero-mul, sub-zero)
 
--- a turn as the code has it: r is the product
-pub orthogonalise-turn : (d v : ℕ) (xs : List Float) (p : ℕ) (r : Float) (ys : List Float) → p < v → v * d + d ≤ length xs
+-- an iteration as the code has it: r is the product
+pub orthogonalise-iteration : (d v : ℕ) (xs : List Float) (p : ℕ) (r : Float) (ys : List Float) → p < v → v * d + d ≤ length xs
     → r ≡ dot-from zero⁺ (part (p * d) d xs) (part (v * d) d xs)
     → ys ≡ sets xs (v * d) (subtract-projection r (part (v * d) d xs) (part (p * d) d xs))
     → orthogonalising d v xs p ≡ orthogonalising d v ys (p + 1)
-orthogonalise-turn d v xs p r ys h g e f = rw (f, e) (orthogonalise-next d v xs p h g)
+orthogonalise-iteration d v xs p r ys h g e f = rw (f, e) (orthogonalise-next d v xs p h g)

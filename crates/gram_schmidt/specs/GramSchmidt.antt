@@ -42,32 +42,32 @@ divided w = cond (collapsed (root (squared-length w))) w (map (λ x. x ⊘ root 
 -- ---- all of them
 
 -- the answer, and what the two slices hold
-pub record Left : Type 0 where
+pub record Orthonormalised : Type 0 where
   pub refusal : Option Refusal
   pub tangents : List Float
-  pub numbers : List Float
+  pub norms : List Float
 
-abbrev pub holds : Option Refusal → List Float → List Float → Left
-holds r xs o = record { refusal = r; tangents = xs; numbers = o }
+abbrev pub holds : Option Refusal → List Float → List Float → Orthonormalised
+holds r xs o = record { refusal = r; tangents = xs; norms = o }
 
 abbrev pub collapse-refusal : Option ℕ → Option Refusal
 collapse-refusal none = none
 collapse-refusal (some v) = some (refuse 14 v)
 
 -- The directions are written from the start, the logarithms from the start of the second slice, and the squared lengths from place n. Leftover entries stay.
-unfoldable pub stored : ℕ → List Float → List Float → Basis → Left
+unfoldable pub stored : ℕ → List Float → List Float → Basis → Orthonormalised
 unfolding concat
-stored n xs out b = holds (collapse-refusal (b .collapse)) (sets xs 0 (concat (b .directions))) (sets (sets out n (b .reports)) 0 (b .logs))
+stored n xs norms b = holds (collapse-refusal (b .collapse)) (sets xs 0 (concat (b .directions))) (sets (sets norms n (b .reports)) 0 (b .logs))
 
--- of the slice xs as directions of d entries, with out for the numbers
-unfoldable pub orthonormalised : List Float → ℕ → List Float → Left
+-- of the slice xs as directions of d entries, with norms for their logarithms and squared lengths
+unfoldable pub orthonormalised : List Float → ℕ → List Float → Orthonormalised
 unfolding stored orthonormalise chunks
-orthonormalised xs d out =
+orthonormalised xs d norms =
     let n = length xs / d in
-    cond (eqb d 0) (holds (some (refuse 7 0)) xs out)
-    (cond (ltb (length out) (2 * n)) (holds (some (refuse 13 0)) xs out)
-    (stored n xs out (orthonormalise euclidean [] (chunks d n xs))))
+    cond (eqb d 0) (holds (some (refuse 7 0)) xs norms)
+    (cond (ltb (length norms) (2 * n)) (holds (some (refuse 13 0)) xs norms)
+    (stored n xs norms (orthonormalise euclidean [] (chunks d n xs))))
 
 -- what the code's answer and its slices stand for
-abbrev pub left : Outcome → List Float → List Float → Left
-left r xs o = holds (reported r) xs o
+abbrev pub observed : Outcome → List Float → List Float → Orthonormalised
+observed r xs o = holds (reported r) xs o

@@ -138,24 +138,24 @@ fn orthonormalise_at(tangents: &mut [f64], v: usize, d: usize) -> Normalised
     normalise(&mut tangents[a..e], squared)
 }
 
-// Orthonormalises the directions of `dimension` entries that lie one after the other in `tangents`. `numbers` takes their
+// Orthonormalises the directions of `dimension` entries that lie one after the other in `tangents`. `norms` takes their
 // logarithms, then their squared lengths.
-pub fn modified_gram_schmidt(tangents: &mut [f64], dimension: usize, numbers: &mut [f64]) -> Outcome
-    ensures { λ r. ⌜ Spec.left r (now (tangents .exit)) (now (numbers .exit)) ≡ Spec.orthonormalised (now (tangents .entry)) dimension (now (numbers .entry)) ⌝ }
+pub fn modified_gram_schmidt(tangents: &mut [f64], dimension: usize, norms: &mut [f64]) -> Outcome
+    ensures { λ r. ⌜ Spec.observed r (now (tangents .exit)) (now (norms .exit)) ≡ Spec.orthonormalised (now (tangents .entry)) dimension (now (norms .entry)) ⌝ }
 {
     if dimension == 0 {
         return Outcome::Refused(LyapunovError::ZeroDimension);
     }
     let count = tangents.len() / dimension;
-    if numbers.len() / 2 < count {
+    if norms.len() / 2 < count {
         return Outcome::Refused(LyapunovError::OutputTooShort(0));
     }
     let mut v = 0;
     while v < count {
         match orthonormalise_at(tangents, v, dimension) {
             Normalised::By(log, squared) => {
-                numbers[count + v] = squared;
-                numbers[v] = log;
+                norms[count + v] = squared;
+                norms[v] = log;
             }
             Normalised::Collapsed => {
                 return Outcome::Refused(LyapunovError::DegenerateTangent(v));

@@ -17,7 +17,7 @@ use Rattle.floats.proofs.Units.{U, few-digits}
 use Rattle.floats.proofs.Pattern.{units-pattern, pattern-of, normal-value, no-nan-under}
 use Rattle.floats.proofs.Ordinary.{Ordinary, ordinary, ordinary-pattern}
 use Rattle.floats.specs.Arithmetic.{least-normal}
-use Rattle.ln.specs.Logarithm.{normal, moved, significand, power, Split}
+use Rattle.ln.specs.Logarithm.{normal, offset-bits, significand, power, Split}
 use Rattle.ln.specs.OneSplit.{SplitExists}
 use Rattle.ln.proofs.Normal.{normal-ordinary}
 
@@ -91,7 +91,7 @@ module _ (z : Float) (held : T (fits binary64 z)) (h : T (normal z)) where
   b = toBits binary64 z
 
   abbrev n : ℕ
-  n = moved z % 2 ^ 52 + 0x3fe6a09e * 2 ^ 32
+  n = offset-bits z % 2 ^ 52 + 0x3fe6a09e * 2 ^ 32
 
   the-fields : Fields b
   the-fields =
@@ -100,7 +100,7 @@ module _ (z : Float) (held : T (fits binary64 z)) (h : T (normal z)) where
   bits-significand : toBits binary64 (significand z) ≡ n
   unfolding significand
   bits-significand =
-      let w = high-word n (moved z) refl in
+      let w = high-word n (offset-bits z) refl in
       toBits-ofBits binary64 n (widen n (w .2)) (subst (λ (t : Bool). T (not t)) (nanBits-is binary64 n) (no-nan-under n (w .2)))
     where
       widen : (n : ℕ) → n < 0x7ff0_0000_0000_0000 → n < 2 ^ 64
@@ -120,17 +120,17 @@ module _ (z : Float) (held : T (fits binary64 z)) (h : T (normal z)) where
   split-at : Split z (significand z) (power z)
   unfolding power
   split-at =
-      let w = high-word n (moved z) refl in
+      let w = high-word n (offset-bits z) refl in
       record {
         least = subst (λ (y : ℕ). 0x3fe6a09e ≤ y / 2 ^ 32) (sym bits-significand) (w .0);
         most = subst (λ (y : ℕ). y / 2 ^ 32 < 0x3ff6a09e) (sym bits-significand) (w .1);
         whole =
-            ratio (num z) (den z) (num (significand z)) (den (significand z)) (2 ^ 52 + b % 2 ^ 52) (up (pos (moved z / 2 ^ 52) -ℤ pos 1023)) (down (pos (moved z / 2 ^ 52) -ℤ pos 1023)) (the-fields .e) (the-fields .f)
+            ratio (num z) (den z) (num (significand z)) (den (significand z)) (2 ^ 52 + b % 2 ^ 52) (up (pos (offset-bits z / 2 ^ 52) -ℤ pos 1023)) (down (pos (offset-bits z / 2 ^ 52) -ℤ pos 1023)) (the-fields .e) (the-fields .f)
             (value→cross z ((2 ^ 52 + b % 2 ^ 52) * 2 ^ the-fields .e) U value-z)
             (value→cross (significand z) ((2 ^ 52 + b % 2 ^ 52) * 2 ^ the-fields .f) U value-significand)
-            (power-of (moved z / 2 ^ 52) (the-fields .e) (the-fields .f) (the-fields .apart));
+            (power-of (offset-bits z / 2 ^ 52) (the-fields .e) (the-fields .f) (the-fields .apart));
       }
 
 pub split-exists : SplitExists
 unfolding significand
-split-exists z held h = (ofBits-fits binary64 (moved z % 2 ^ 52 + 0x3fe6a09e * 2 ^ 32), split-at z held h)
+split-exists z held h = (ofBits-fits binary64 (offset-bits z % 2 ^ 52 + 0x3fe6a09e * 2 ^ 32), split-at z held h)

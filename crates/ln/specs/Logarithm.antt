@@ -21,16 +21,16 @@ pub record Split (z m : Float) (k : ℤ) : Type 0 where
   pub most : toBits binary64 m / 2 ^ 32 < 0x3ff6a09e
   pub whole : num z * den m * down k ≡ num m * up k * den z
 
--- the bits of z moved up so that the field of the exponent turns where the range of m ends: 95f62 is 3ff00000 - 3fe6a09e
-abbrev pub moved : Float → ℕ
-moved z = toBits binary64 z + 0x95f62 * 2 ^ 32
+-- the bits of z and an offset, so that the field of the exponent grows by 1 where the range of m ends: 95f62 is 3ff00000 - 3fe6a09e
+abbrev pub offset-bits : Float → ℕ
+offset-bits z = toBits binary64 z + 0x95f62 * 2 ^ 32
 
 -- the m and the k of z
 unfoldable pub significand : Float → Float
-significand z = bits (moved z % 2 ^ 52 + 0x3fe6a09e * 2 ^ 32)
+significand z = bits (offset-bits z % 2 ^ 52 + 0x3fe6a09e * 2 ^ 32)
 
 unfoldable pub power : Float → ℤ
-power z = pos (moved z / 2 ^ 52) -ℤ pos 1023
+power z = pos (offset-bits z / 2 ^ 52) -ℤ pos 1023
 
 -- ---- the operations, in their order
 

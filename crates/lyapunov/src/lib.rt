@@ -95,16 +95,16 @@ fn report_run(answer: SpectrumEstimate, counts: &mut [u64; 19], times: &mut [f64
     number
 }
 
-// A rate goes to `out`, which a refusal leaves as it is.
-fn report_rate(rate: diagnostics::Rate, out: &mut f64, place: &mut u64) -> u64
-    ensures { λ r. ⌜ (r ≡ number-of (refusal-in (Rates.answer rate))) × (now (place .exit) ≡ place-of (refusal-in (Rates.answer rate))) × (now (out .exit) ≡ Interface.value-or (now (out .entry)) (Rates.answer rate)) ⌝ }
+// A dimension or an entropy goes to `out`, which a refusal leaves as it is.
+fn report_diagnostic(diagnostic: diagnostics::Diagnostic, out: &mut f64, place: &mut u64) -> u64
+    ensures { λ r. ⌜ (r ≡ number-of (refusal-in (Rates.answer diagnostic))) × (now (place .exit) ≡ place-of (refusal-in (Rates.answer diagnostic))) × (now (out .exit) ≡ Interface.value-or (now (out .entry)) (Rates.answer diagnostic)) ⌝ }
 {
-    match rate {
-        diagnostics::Rate::Value(x) => {
+    match diagnostic {
+        diagnostics::Diagnostic::Value(x) => {
             *out = x;
             report(Outcome::Accepted, place)
         }
-        diagnostics::Rate::Refused(e) => report(Outcome::Refused(e), place),
+        diagnostics::Diagnostic::Refused(e) => report(Outcome::Refused(e), place),
     }
 }
 
@@ -154,20 +154,20 @@ pub extern "C" fn lyapunov_splitmix64_symmetric_unit(value: u64) -> f64
     splitmix64::unit(value)
 }
 
-// Directions of `dimension` entries, made orthonormal; `numbers` takes their logarithms, then their squared lengths.
+// Directions of `dimension` entries, made orthonormal; `norms` takes their logarithms, then their squared lengths.
 #[no_mangle]
 pub extern "C" fn lyapunov_modified_gram_schmidt(
     tangents: &mut [f64],
     dimension: usize,
-    numbers: &mut [f64],
+    norms: &mut [f64],
     place: &mut u64,
 ) -> u64
-    ensures { λ r. ⌜ (r ≡ number-of (orthonormalised (now (tangents .entry)) dimension (now (numbers .entry)) .refusal))
-        × (now (place .exit) ≡ place-of (orthonormalised (now (tangents .entry)) dimension (now (numbers .entry)) .refusal))
-        × (now (tangents .exit) ≡ orthonormalised (now (tangents .entry)) dimension (now (numbers .entry)) .tangents)
-        × (now (numbers .exit) ≡ orthonormalised (now (tangents .entry)) dimension (now (numbers .entry)) .numbers) ⌝ }
+    ensures { λ r. ⌜ (r ≡ number-of (orthonormalised (now (tangents .entry)) dimension (now (norms .entry)) .refusal))
+        × (now (place .exit) ≡ place-of (orthonormalised (now (tangents .entry)) dimension (now (norms .entry)) .refusal))
+        × (now (tangents .exit) ≡ orthonormalised (now (tangents .entry)) dimension (now (norms .entry)) .tangents)
+        × (now (norms .exit) ≡ orthonormalised (now (tangents .entry)) dimension (now (norms .entry)) .norms) ⌝ }
 {
-    let outcome = gram_schmidt::modified_gram_schmidt(tangents, dimension, numbers);
+    let outcome = gram_schmidt::modified_gram_schmidt(tangents, dimension, norms);
     report(outcome, place)
 }
 
@@ -360,7 +360,7 @@ pub extern "C" fn lyapunov_kaplan_yorke_dimension(
     ensures { λ r. ⌜ (r ≡ number-of (refusal-in (Rates.dimension (now (exponents .entry))))) × (now (place .exit) ≡ place-of (refusal-in (Rates.dimension (now (exponents .entry)))))
         × (now (out .exit) ≡ Interface.value-or (now (out .entry)) (Rates.dimension (now (exponents .entry)))) ⌝ }
 {
-    report_rate(diagnostics::kaplan_yorke_dimension(exponents), out, place)
+    report_diagnostic(diagnostics::kaplan_yorke_dimension(exponents), out, place)
 }
 
 // The entropy goes to `out`, which a refusal leaves as it is.
@@ -373,5 +373,5 @@ pub extern "C" fn lyapunov_kolmogorov_sinai_entropy(
     ensures { λ r. ⌜ (r ≡ number-of (refusal-in (Rates.entropy (now (exponents .entry))))) × (now (place .exit) ≡ place-of (refusal-in (Rates.entropy (now (exponents .entry)))))
         × (now (out .exit) ≡ Interface.value-or (now (out .entry)) (Rates.entropy (now (exponents .entry)))) ⌝ }
 {
-    report_rate(diagnostics::kolmogorov_sinai_entropy(exponents), out, place)
+    report_diagnostic(diagnostics::kolmogorov_sinai_entropy(exponents), out, place)
 }

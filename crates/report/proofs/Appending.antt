@@ -1,4 +1,4 @@
--- Bytes put after a text: a turn and the end of the loop, and texts one after the other.
+-- Bytes put after a text: an iteration and the end of the loop, and texts one after the other.
 use mathlib.Core.Path.{_≡_, sym, ap, _∙_}
 use mathlib.Core.List.{List, [], _∷_, _++_, append-assoc}
 use Prim.Native.Nat.{ℕ, suc, _+_, _≤_, _<_}

@@ -1,4 +1,4 @@
--- Floats from bytes: a turn and the end of the loops that read a number and that decode, and the float of a pattern.
+-- Floats from bytes: an iteration and the end of the loops that read a number and that decode, and the float of a pattern.
 use mathlib.Core.Path.{_≡_, refl, sym, ap, _∙_, subst}
 use mathlib.Core.Bool.{true, false≢true}
 use mathlib.Core.List.{List, [], _∷_, _++_, append-nil, append-assoc}

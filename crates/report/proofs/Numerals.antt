@@ -1,4 +1,4 @@
--- Numbers to digits: a turn of the loops that fill in digits and that count them, and the lengths.
+-- Numbers to digits: an iteration of the loops that fill in digits and that count them, and the lengths.
 use mathlib.Core.Path.{_≡_, refl, sym, ap, _∙_}
 use mathlib.Core.Bool.{Bool, true, false, cond}
 use mathlib.Core.List.{List, [], _∷_, _++_, append-assoc}

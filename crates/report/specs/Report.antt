@@ -30,14 +30,14 @@ unfolding decimal
 refusal-text r = (114 ∷ 101 ∷ 102 ∷ 117 ∷ 115 ∷ 101 ∷ 100 ∷ 32 ∷ []) ++ decimal (r .number) ++ (32 ∷ []) ++ decimal (r .place) ++ (10 ∷ [])
 
 -- both values, or the first refusal
-abbrev pub rates-text : Answer Float → Answer Float → List ℕ
-rates-text (value d) (value e) = values-text d e
-rates-text (value d) (refused r) = refusal-text r
-rates-text (refused r) e = refusal-text r
+abbrev pub diagnostics-text : Answer Float → Answer Float → List ℕ
+diagnostics-text (value d) (value e) = values-text d e
+diagnostics-text (value d) (refused r) = refusal-text r
+diagnostics-text (refused r) e = refusal-text r
 
 unfoldable pub exponents-text : List Float → List ℕ
 unfolding values-text refusal-text dimension entropy
-exponents-text xs = rates-text (dimension xs) (entropy xs)
+exponents-text xs = diagnostics-text (dimension xs) (entropy xs)
 
 -- 21 above 2,048 bytes, 23 not a multiple of 8; else the text for the exponents
 unfoldable pub output : List ℕ → List ℕ

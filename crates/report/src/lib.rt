@@ -3,7 +3,7 @@
 // `report` takes any bytes, and its contract gives every byte of the text: the bits of the dimension and of the entropy
 // as hexadecimal lines, or `refused N P`. It tests 21 by the length of the input, then 23; diagnostics tests the rest.
 // Start with specs/Report.antt; specs/Marked.antt has document 01's example.
-use diagnostics::Rate;
+use diagnostics::Diagnostic;
 use error::LyapunovError;
 ghost use mathlib.Core.Path.{_≡_};
 ghost use Prim.Native.Nat.{_+_, _*_, _≤_, _<_};
@@ -164,15 +164,15 @@ fn refusal_text(error: LyapunovError) -> Text
     append(place, b"\n")
 }
 
-fn rates_text(dimension: Rate, entropy: Rate) -> Text
-    ensures { λ r. ⌜ Report.Holds r (Report.rates-text (answer dimension) (answer entropy)) ⌝ }
+fn diagnostics_text(dimension: Diagnostic, entropy: Diagnostic) -> Text
+    ensures { λ r. ⌜ Report.Holds r (Report.diagnostics-text (answer dimension) (answer entropy)) ⌝ }
 {
     match dimension {
-        Rate::Value(d) => match entropy {
-            Rate::Value(e) => values_text(d, e),
-            Rate::Refused(error) => refusal_text(error),
+        Diagnostic::Value(d) => match entropy {
+            Diagnostic::Value(e) => values_text(d, e),
+            Diagnostic::Refused(error) => refusal_text(error),
         },
-        Rate::Refused(error) => refusal_text(error),
+        Diagnostic::Refused(error) => refusal_text(error),
     }
 }
 
@@ -184,7 +184,7 @@ fn report_in(exponents: &mut [f64], bytes: &[u8]) -> Text
     decode(bytes, exponents);
     let dimension = diagnostics::kaplan_yorke_dimension(exponents);
     let entropy = diagnostics::kolmogorov_sinai_entropy(exponents);
-    rates_text(dimension, entropy)
+    diagnostics_text(dimension, entropy)
 }
 
 pub fn report(bytes: &[u8]) -> Text

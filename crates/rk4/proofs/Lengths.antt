@@ -13,23 +13,23 @@ use Rattle.system.specs.System.{dim, field, tangent}
 use Rattle.system.specs.declared.System.{System}
 use Rattle.rk4.specs.Stepper.{combine-stage, advance-by, rk4}
 use Rattle.rk4.specs.Step.{advance, advanced, stepped, step-tests, unless}
-use Rattle.rk4.specs.Stages.{moved}
+use Rattle.rk4.specs.Stages.{classical-step}
 use Rattle.rk4.proofs.Directions.{all-length}
-use Rattle.rk4.proofs.Moves.{moved-length, advance-state}
+use Rattle.rk4.proofs.ClassicalStep.{classical-step-length, advance-state}
 use Rattle.rk4.proofs.Tests.{all-passed}
 
 module _ (S : System) (m : List Float) (h : Float) (x : List Float) where
   pub state-length : length (advance S m h x .0) ≡ length x
-  state-length = ap length (advance-state S m h x) ∙ moved-length h (field S m) (field S m) (field S m) (field S m) x
+  state-length = ap length (advance-state S m h x) ∙ classical-step-length h (field S m) (field S m) (field S m) (field S m) x
 
   pub direction-length : (v : List Float) → length (advance S m h x .1 v) ≡ length v
-  unfolding advance advance-by rk4 moved
+  unfolding advance advance-by rk4 classical-step
   direction-length v =
       let f = field S m in
       let x₂ = combine-stage (half ⊗ h) x (f x) in
       let x₃ = combine-stage (half ⊗ h) x (f x₂) in
       let x₄ = combine-stage h x (f x₃) in
-      moved-length h (tangent S m x) (tangent S m x₂) (tangent S m x₃) (tangent S m x₄) v
+      classical-step-length h (tangent S m x) (tangent S m x₂) (tangent S m x₃) (tangent S m x₄) v
 
   module _ (t : List Float) (n : ℕ) where
     pub advanced-state-length : length (advanced S m x t n h .state) ≡ length x

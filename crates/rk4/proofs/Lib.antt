@@ -6,7 +6,7 @@ pub mod Parts
 pub mod Times
 pub mod Columns
 pub mod Few
-pub mod Moves
+pub mod ClassicalStep
 pub mod Directions
 pub mod Tests
 pub mod Lengths

@@ -88,7 +88,7 @@ module _ (S : System) (m : List Float) (time : Float) (x t : List Float) (n : �
   unfolding stepped
   stepped-accepted e = rw (← e)
 
-  -- where one fails nothing is moved
+  -- where one fails nothing is changed
   pub stepped-refused : (r : Refusal) → some r ≡ first-failing (step-tests S m time x t n h) → stepped S m time x t n h ≡ record { refusal = some r; state = x; tangents = t }
   unfolding stepped
   stepped-refused r e = rw (← e)

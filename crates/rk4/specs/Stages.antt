@@ -30,9 +30,9 @@ NotLinear (VanDerPol μ) = Unit {0}
 NotLinear (Linear d) = ⊥
 
 -- the classical step of v, where the derivative map of each of the four stages is given
-unfoldable pub moved : Float → (List Float → List Float) → (List Float → List Float) → (List Float → List Float) → (List Float → List Float) → List Float → List Float
+unfoldable pub classical-step : Float → (List Float → List Float) → (List Float → List Float) → (List Float → List Float) → (List Float → List Float) → List Float → List Float
 unfolding updated rk4-update
-moved h f₁ f₂ f₃ f₄ v =
+classical-step h f₁ f₂ f₃ f₄ v =
     let k₁ = f₁ v in
     let k₂ = f₂ (combine-stage (half ⊗ h) v k₁) in
     let k₃ = f₃ (combine-stage (half ⊗ h) v k₂) in
@@ -41,11 +41,11 @@ moved h f₁ f₂ f₃ f₄ v =
 
 -- the same where each stage has the same map
 abbrev pub alike : Float → (List Float → List Float) → List Float → List Float
-alike h f v = moved h f f f f v
+alike h f v = classical-step h f f f f v
 
 -- a direction, with the stage points of the state at the front of x₁ to x₄
 abbrev pub along : System → List Float → Float → List Float → List Float → List Float → List Float → List Float → List Float
-along S m h x₁ x₂ x₃ x₄ v = moved h (tangent S m (take (dim S) x₁)) (tangent S m (take (dim S) x₂)) (tangent S m (take (dim S) x₃)) (tangent S m (take (dim S) x₄)) v
+along S m h x₁ x₂ x₃ x₄ v = classical-step h (tangent S m (take (dim S) x₁)) (tangent S m (take (dim S) x₂)) (tangent S m (take (dim S) x₃)) (tangent S m (take (dim S) x₄)) v
 
 -- the d rows of m, column after column, each column at the front of w entries
 abbrev pub Transposed : ℕ → ℕ → List Float → List Float → Type 0

@@ -65,5 +65,5 @@ unfolding first-failing advanced
 stepped S m time x t n h = unless (first-failing (step-tests S m time x t n h)) x t (advanced S m x t n h)
 
 -- what the code's answer and its slices stand for
-abbrev pub left : Outcome → List Float → List Float → Stepped
-left r x t = record { refusal = reported r; state = x; tangents = t }
+abbrev pub observed : Outcome → List Float → List Float → Stepped
+observed r x t = record { refusal = reported r; state = x; tangents = t }

@@ -30,7 +30,7 @@ ghost use Rattle.system.specs.System.{dim, field, times};
 ghost use Rattle.system.specs.Array.{in16};
 ghost use Rattle.rk4.specs.Stepper.{combine-stage, rk4-update};
 ghost use Rattle.rk4.specs.Stages.{Evaluable, NotLinear, Transposed, width-of, alike, along, tested-finite};
-ghost use Rattle.rk4.specs.Step.{step-tests, advanced, stepped, left};
+ghost use Rattle.rk4.specs.Step.{step-tests, advanced, stepped, observed};
 
 // A slice of at most `width` floats as an array, with zeros behind them. The width is a literal at each call, so that the
 // loop unrolls.
@@ -447,7 +447,7 @@ fn checked_step(
     h: f64,
 ) -> Outcome
     requires { ⌜ Evaluable system (now matrix) × (dim system ≡ length (now state)) × (length (now tangents) ≡ count * length (now state)) ⌝ }
-    ensures { λ r. ⌜ left r (now (state .exit)) (now (tangents .exit)) ≡ advanced system (now (matrix .entry)) (now (state .entry)) (now (tangents .entry)) count h ⌝ }
+    ensures { λ r. ⌜ observed r (now (state .exit)) (now (tangents .exit)) ≡ advanced system (now (matrix .entry)) (now (state .entry)) (now (tangents .entry)) count h ⌝ }
 {
     advance_values(system, matrix, state, tangents, count, h);
     if let Position::At(i) = floats::first_not_finite(state) {
@@ -517,7 +517,7 @@ pub fn step(
     tangent_count: usize,
     step_size: f64,
 ) -> Outcome
-    ensures { λ r. ⌜ left r (now (state .exit)) (now (tangents .exit)) ≡ stepped system (now (matrix .entry)) time (now (state .entry)) (now (tangents .entry)) «tangent_count» «step_size» ⌝ }
+    ensures { λ r. ⌜ observed r (now (state .exit)) (now (tangents .exit)) ≡ stepped system (now (matrix .entry)) time (now (state .entry)) (now (tangents .entry)) «tangent_count» «step_size» ⌝ }
 {
     let tested = validate_step_inputs(
         system,

@@ -162,16 +162,16 @@ scaled-normal b h n =
     total : (n x : ℕ) → n ≡ suc x → x + 1022 ≡ n + 1021
     total n x e = omega arith
 
--- t below 2 ^ 52 and above 0, moved up by the leading zeros beyond 11
-pub record Moved (t z : ℕ) : Type 0 where
+-- t below 2 ^ 52 and above 0, shifted up by the leading zeros beyond 11
+pub record Shifted (t z : ℕ) : Type 0 where
   pub enough : 11 ≤ z
   pub small : z - 11 ≤ 52
   pub exact : t * 2 ^ (z - 11) % 2 ^ 64 ≡ t * 2 ^ (z - 11)
   pub lo : 2 ^ 52 ≤ t * 2 ^ (z - 11)
   pub hi : t * 2 ^ (z - 11) < 2 ^ 53
 
-pub moved : (t : ℕ) → 0 < t → t < 2 ^ 52 → Moved t (leadingZeros 64 t)
-moved t some l =
+pub shifted : (t : ℕ) → 0 < t → t < 2 ^ 52 → Shifted t (leadingZeros 64 t)
+shifted t some l =
     let z = leadingZeros 64 t in
     let top = leading-top 64 t some (lt-of-lt-of-le l (lit≤ {m = 2 ^ 52} {n = 2 ^ 64} tt)) in
     let j = top .0 in

@@ -22,14 +22,14 @@ smaller a b c h s =
 pub product-le-square : (a b c : ℕ) → a + b ≤ c + c → a * b ≤ c * c
 product-le-square a b c s = elim (decLe a c) [
   | yes h ↦ smaller a b c h s
-  | no h ↦ subst (λ (z : ℕ). z ≤ c * c) (mul-comm b a) (smaller b a c (other a b c (lt-of-not-le h) s) (turned a b c s))
+  | no h ↦ subst (λ (z : ℕ). z ≤ c * c) (mul-comm b a) (smaller b a c (other a b c (lt-of-not-le h) s) (swapped a b c s))
 ]
   where
     other : (a b c : ℕ) → c < a → a + b ≤ c + c → b ≤ c
     other a b c h s = omega arith
 
-    turned : (a b c : ℕ) → a + b ≤ c + c → b + a ≤ c + c
-    turned a b c s = omega arith
+    swapped : (a b c : ℕ) → a + b ≤ c + c → b + a ≤ c + c
+    swapped a b c s = omega arith
 
 -- n is below (n / r + 1) * r, a product whose mean factor is at most the new guess and one
 pub newton-above : (n r : ℕ) → zero < r → n < ((r + n / r) / 2 + 1) * ((r + n / r) / 2 + 1)

@@ -29,11 +29,11 @@ mul-y c = omega arith
 slice-read-y : tie.Need-slice-read-y Inv-loop μ-loop
 slice-read-y c = omega arith
 
-total-order-requires : tie.Need-total-order-requires Inv-loop μ-loop
-total-order-requires c κs = search needs
+total-cmp-requires : tie.Need-total-cmp-requires Inv-loop μ-loop
+total-cmp-requires c κs = search needs
 
-total-order-requires-2 : tie.Need-total-order-requires-2 Inv-loop μ-loop
-total-order-requires-2 c κs = search needs
+total-cmp-requires-2 : tie.Need-total-cmp-requires-2 Inv-loop μ-loop
+total-cmp-requires-2 c κs = search needs
 
 mul-xs : tie.Need-mul-xs Inv-loop μ-loop
 mul-xs c = omega arith
@@ -48,8 +48,8 @@ loop-less : tie.Need-loop-less Inv-loop μ-loop
 loop-less c = omega arith
 
 -- what the invariant says of the list and the float that the two arms leave
-moved : (a b : List Float) (v w : Float) (m n : ℕ) → b ≡ a → w ≡ v → take m a ++ insert v (drop m (take n a)) ≡ take m b ++ insert w (drop m (take n b))
-moved a b v w m n p q = rw (p, q)
+rewritten : (a b : List Float) (v w : Float) (m n : ℕ) → b ≡ a → w ≡ v → take m a ++ insert v (drop m (take n a)) ≡ take m b ++ insert w (drop m (take n b))
+rewritten a b v w m n p q = rw (p, q)
 
 loop-again : tie.Need-loop-again Inv-loop μ-loop
 loop-again c =
@@ -65,8 +65,8 @@ loop-again c =
       ⊎-elim (λ w. ap length (w .1) ∙ length-set xs k lower ∙ at .loop .inv .1) (λ w. ap length (w .1) ∙ at .loop .inv .1) (c .if1 .came),
       at .loop .inv .2
           ∙ ⊎-elim
-          (λ w. insert-up xs n k lower h (omega arith) (omega (arith, c .before .total-order2 .ensures, c .before .before .total-order .ensures, w .0 .taken)) ∙ moved (set xs k lower) (c .if1 .xs) y (c .if1 .lower) (k + 1) n (w .1) (w .2))
-          (λ w. insert-on xs n k lower h (omega arith) (omega (arith, c .before .total-order2 .ensures, c .before .before .total-order .ensures, w .0 .left)) ∙ moved xs (c .if1 .xs) lower (c .if1 .lower) (k + 1) n (w .1) (w .2))
+          (λ w. insert-up xs n k lower h (omega arith) (omega (arith, c .before .total-cmp2 .ensures, c .before .before .total-cmp .ensures, w .0 .taken)) ∙ rewritten (set xs k lower) (c .if1 .xs) y (c .if1 .lower) (k + 1) n (w .1) (w .2))
+          (λ w. insert-on xs n k lower h (omega arith) (omega (arith, c .before .total-cmp2 .ensures, c .before .before .total-cmp .ensures, w .0 .left)) ∙ rewritten xs (c .if1 .xs) lower (c .if1 .lower) (k + 1) n (w .1) (w .2))
           (c .if1 .came),
       ⊎-elim (λ w. ap (drop (n + 1)) (w .1) ∙ drop-set-lt (n + 1) xs k lower (omega arith) ∙ at .loop .inv .3) (λ w. ap (drop (n + 1)) (w .1) ∙ at .loop .inv .3) (c .if1 .came),
     )
@@ -101,8 +101,8 @@ insert-spec =
     loop-holds
     mul-y
     slice-read-y
-    total-order-requires
-    total-order-requires-2
+    total-cmp-requires
+    total-cmp-requires-2
     mul-xs
     slice-write-xs
     add-k

@@ -8,7 +8,7 @@ use lib.ListN.{length}
 use Rattle.floats.specs.Arithmetic.{zero⁺}
 use Rattle.floats.specs.Vector.{dot-from, part}
 use Rattle.floats.proofs.Vector.{vector-fits}
-use Rattle.gram_schmidt.proofs.Loops.{orthogonalising, orthogonalise-start, orthogonalise-turn, orthogonalise-end}
+use Rattle.gram_schmidt.proofs.Loops.{orthogonalising, orthogonalise-start, orthogonalise-iteration, orthogonalise-end}
 use Rattle.gram_schmidt.proofs.orthogonalise_once.Statement.{statement}
 use Rattle.gram_schmidt.proofs.orthogonalise_once.Tie as tie
 
@@ -55,7 +55,7 @@ loop-again c =
     let e : (l .p + 1) * ar .d ≡ l .p * ar .d + ar .d = rw (add-one, suc-mul) in (
       omega arith,
       s .kept .0 ∙ l .inv .1,
-      l .inv .2 ∙ orthogonalise-turn (ar .d) (ar .v) (l .values) (l .p) (l .c) (s .last .0) (omega arith) (omega arith) (l .inv .3) (s .ensures .0),
+      l .inv .2 ∙ orthogonalise-iteration (ar .d) (ar .v) (l .values) (l .p) (l .c) (s .last .0) (omega arith) (omega arith) (l .inv .3) (s .ensures .0),
       s .ensures .1 ∙ rw e,
     )
 
@@ -75,7 +75,7 @@ returns c =
     let s = c .before .before .subtract-projection2 in
     let q = s .kept .0 ∙ l .inv .1 in (
       sym (orthogonalise-end (ar .d) (ar .v) (s .last .0) (l .p + 1) (omega arith) (omega arith))
-          ∙ sym (l .inv .2 ∙ orthogonalise-turn (ar .d) (ar .v) (l .values) (l .p) (l .c) (s .last .0) (omega arith) (omega arith) (l .inv .3) (s .ensures .0))
+          ∙ sym (l .inv .2 ∙ orthogonalise-iteration (ar .d) (ar .v) (l .values) (l .p) (l .c) (s .last .0) (omega arith) (omega arith) (l .inv .3) (s .ensures .0))
           ∙ orthogonalise-start (ar .d) (ar .v) _,
       s .ensures .1,
     )

@@ -10,15 +10,15 @@ use Rattle.lyapunov.proofs.lyapunov_kaplan_yorke_dimension.Tie as tie
 kaplan-yorke-dimension-requires : tie.Need-kaplan-yorke-dimension-requires
 kaplan-yorke-dimension-requires c κs = search needs
 
-report-rate-requires : tie.Need-report-rate-requires
-report-rate-requires c κs = search needs
+report-diagnostic-requires : tie.Need-report-diagnostic-requires
+report-diagnostic-requires c κs = search needs
 
 returns : tie.Need-returns
 returns c =
     let e = c .before .before .before .kaplan-yorke-dimension .ensures in
-    let r = c .report-rate .ensures in
+    let r = c .report-diagnostic .ensures in
     (r .0 ∙ ap (λ (y : Answer Float). number-of (refusal-in y)) e, r .1 ∙ ap (λ (y : Answer Float). place-of (refusal-in y)) e, r .2 ∙ ap (value-or (c .before .before .before .before .before .args .out .now)) e)
 
 pub lyapunov-kaplan-yorke-dimension-spec : {M : Type 1} → statement M
 lyapunov-kaplan-yorke-dimension-spec =
-    tie.close (tie.spec kaplan-yorke-dimension-requires report-rate-requires returns)
+    tie.close (tie.spec kaplan-yorke-dimension-requires report-diagnostic-requires returns)

@@ -2,7 +2,7 @@
 use borrow.Author.Needs.{needs}
 use mathlib.Core.Path.{ap, _∙_}
 use Rattle.error.specs.Refusal.{number-of, place-of}
-use Rattle.gram_schmidt.specs.GramSchmidt.{Left}
+use Rattle.gram_schmidt.specs.GramSchmidt.{Orthonormalised}
 use Rattle.lyapunov.proofs.lyapunov_modified_gram_schmidt.Statement.{statement}
 use Rattle.lyapunov.proofs.lyapunov_modified_gram_schmidt.Tie as tie
 
@@ -22,7 +22,7 @@ returns : tie.Need-returns
 returns c =
     let e = c .before .before .before .before .before .before .modified-gram-schmidt .ensures in
     let r = c .report .ensures in
-    (r .0 ∙ ap (λ (y : Left). number-of (y .refusal)) e, r .1 ∙ ap (λ (y : Left). place-of (y .refusal)) e, ap (λ (y : Left). y .tangents) e, ap (λ (y : Left). y .numbers) e)
+    (r .0 ∙ ap (λ (y : Orthonormalised). number-of (y .refusal)) e, r .1 ∙ ap (λ (y : Orthonormalised). place-of (y .refusal)) e, ap (λ (y : Orthonormalised). y .tangents) e, ap (λ (y : Orthonormalised). y .norms) e)
 
 pub lyapunov-modified-gram-schmidt-spec : {M : Type 1} → statement M
 lyapunov-modified-gram-schmidt-spec =

@@ -13,8 +13,8 @@ kaplan-yorke-dimension-requires c κs = search needs
 kolmogorov-sinai-entropy-requires : tie.Need-kolmogorov-sinai-entropy-requires
 kolmogorov-sinai-entropy-requires c κs = search needs
 
-rates-text-requires : tie.Need-rates-text-requires
-rates-text-requires c κs = search needs
+diagnostics-text-requires : tie.Need-diagnostics-text-requires
+diagnostics-text-requires c κs = search needs
 
 same-length : tie.Need-same-length
 same-length c = search needs
@@ -25,7 +25,7 @@ returns c =
     let e = c .before in
     let d = e .before .before in
     let f = d .before .before .before .before in
-    rw (← f .decode .ensures, ← d .kaplan-yorke-dimension .ensures, ← e .kolmogorov-sinai-entropy .ensures) (c .rates-text .ensures)
+    rw (← f .decode .ensures, ← d .kaplan-yorke-dimension .ensures, ← e .kolmogorov-sinai-entropy .ensures) (c .diagnostics-text .ensures)
 
 pub report-in-spec : {M : Type 1} → statement M
 report-in-spec =
@@ -34,6 +34,6 @@ report-in-spec =
     decode-requires
     kaplan-yorke-dimension-requires
     kolmogorov-sinai-entropy-requires
-    rates-text-requires
+    diagnostics-text-requires
     same-length
     returns)

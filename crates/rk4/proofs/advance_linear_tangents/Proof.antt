@@ -12,7 +12,7 @@ use Rattle.floats.proofs.Vector.{vector-fits}
 use Rattle.system.specs.System.{times}
 use Rattle.rk4.specs.Stages.{alike, Transposed, width-of}
 use Rattle.rk4.proofs.Parts.{lent-length, back-length}
-use Rattle.rk4.proofs.Moves.{moved-length}
+use Rattle.rk4.proofs.ClassicalStep.{classical-step-length}
 use Rattle.rk4.proofs.Directions.{all-by, put-next, put-all}
 use Rattle.rk4.proofs.advance_linear_tangents.Statement.{statement}
 use Rattle.rk4.proofs.advance_linear_tangents.Tie as tie
@@ -31,7 +31,7 @@ abbrev taken : tie.Start Inv-loop μ-loop → List Float → List Float → List
 taken s m = alike (s .args .h) (times (chunks (s .args .d) (s .args .d) m))
 
 keeps : (s : tie.Start Inv-loop μ-loop) (m v : List Float) → length (taken s m v) ≡ length v
-keeps s m = let F = times (chunks (s .args .d) (s .args .d) m) in moved-length (s .args .h) F F F F
+keeps s m = let F = times (chunks (s .args .d) (s .args .d) m) in classical-step-length (s .args .h) F F F F
 
 -- direction j is within the slice
 room : (c : tie.In-loop Inv-loop μ-loop) → c .before .loop .j * c .before .before .before .before .args .d + c .before .before .before .before .args .d ≤ length (c .before .loop .tangents)

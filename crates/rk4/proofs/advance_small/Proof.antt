@@ -10,7 +10,7 @@ use lib.Ieee.{Float, ofBits}
 use Rattle.rk4.specs.Stepper.{rk4-update}
 use Rattle.rk4.specs.Step.{advanced}
 use Rattle.rk4.specs.Stages.{tested-finite}
-use Rattle.rk4.proofs.Moves.{small-step}
+use Rattle.rk4.proofs.ClassicalStep.{small-step}
 use Rattle.rk4.proofs.advance_small.Statement.{statement}
 use Rattle.rk4.proofs.advance_small.Tie as tie
 

@@ -2,7 +2,7 @@
 use mathlib.Core.Path.{sym, ap, _∙_}
 use borrow.Author.Needs.{needs}
 use Rattle.system.specs.System.{dim, tangent}
-use Rattle.rk4.specs.Stages.{moved}
+use Rattle.rk4.specs.Stages.{classical-step}
 use Rattle.rk4.proofs.advance_tangent.Statement.{statement}
 use Rattle.rk4.proofs.advance_tangent.Tie as tie
 
@@ -31,21 +31,21 @@ same-length : tie.Need-same-length
 same-length c = search needs
 
 returns : tie.Need-returns
-unfolding tangent moved
+unfolding tangent classical-step
 returns c m = rw (c .before .before .before .before .before .system .given .1) (c .before .before .advance-lorenz-tangent .ensures)
 
 same-length-2 : tie.Need-same-length-2
 same-length-2 c = search needs
 
 returns-2 : tie.Need-returns-2
-unfolding tangent moved
+unfolding tangent classical-step
 returns-2 c m = rw (c .before .before .before .before .before .system2 .given .1) (c .before .before .advance-rossler-tangent .ensures)
 
 same-length-3 : tie.Need-same-length-3
 same-length-3 c = search needs
 
 returns-3 : tie.Need-returns-3
-unfolding tangent moved
+unfolding tangent classical-step
 returns-3 c m = rw (c .before .before .before .before .before .system3 .given .1) (c .before .before .advance-van-der-pol-tangent .ensures)
 
 returns-4 : tie.Need-returns-4

@@ -11,7 +11,7 @@ use Rattle.floats.specs.Vector.{chunks, concat}
 use Rattle.floats.proofs.Vector.{vector-fits}
 use Rattle.rk4.specs.Stages.{along}
 use Rattle.rk4.proofs.Parts.{lent-length, back-length}
-use Rattle.rk4.proofs.Moves.{along-length}
+use Rattle.rk4.proofs.ClassicalStep.{along-length}
 use Rattle.rk4.proofs.Directions.{all-by, put-next, put-all}
 use Rattle.rk4.proofs.advance_tangents.Statement.{statement}
 use Rattle.rk4.proofs.advance_tangents.Tie as tie

@@ -16,7 +16,7 @@ use Rattle.system.proofs.System.{the-type}
 use Rattle.rk4.specs.Step.{advanced}
 use Rattle.rk4.specs.Stages.{NotLinear, alike, tested-finite}
 use Rattle.rk4.proofs.Columns.{narrow, wide}
-use Rattle.rk4.proofs.Moves.{linear-fits, linear-leaves}
+use Rattle.rk4.proofs.ClassicalStep.{linear-fits, linear-leaves}
 use Rattle.rk4.proofs.advance_values.Statement.{statement}
 use Rattle.rk4.proofs.advance_values.Tie as tie
 

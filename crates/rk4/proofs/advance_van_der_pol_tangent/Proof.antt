@@ -7,7 +7,7 @@ use lib.Seq.{length-take-le, take-all}
 use lib.Ieee.{ofBits}
 use Rattle.system.specs.Array.{in16}
 use Rattle.system.specs.declared.System.the-variants.{VanDerPol}
-use Rattle.rk4.proofs.Moves.{small-direction}
+use Rattle.rk4.proofs.ClassicalStep.{small-direction}
 use Rattle.rk4.proofs.advance_van_der_pol_tangent.Statement.{statement}
 use Rattle.rk4.proofs.advance_van_der_pol_tangent.Tie as tie
 

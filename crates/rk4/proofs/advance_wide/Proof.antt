@@ -5,7 +5,7 @@ use borrow.Author.Needs.{needs}
 use lib.ListN.{length}
 use lib.Ieee.{ofBits}
 use Rattle.rk4.proofs.Few.{update-front}
-use Rattle.rk4.proofs.Moves.{linear-moved}
+use Rattle.rk4.proofs.ClassicalStep.{linear-step}
 use Rattle.rk4.proofs.advance_wide.Statement.{statement}
 use Rattle.rk4.proofs.advance_wide.Tie as tie
 
@@ -71,7 +71,7 @@ returns c m e t =
     let s = x₁ .before .before .before .before in
     let ar = s .args in
     o .copy-front .ensures
-    ∙ linear-moved (ar .h) (ar .d) 16 (ar .v .now) _ _ _ _ _ _ _ (s .pre .2) (s .pre .0) (omega arith)
+    ∙ linear-step (ar .h) (ar .d) 16 (ar .v .now) _ _ _ _ _ _ _ (s .pre .2) (s .pre .0) (omega arith)
     (x₁ .zero-padded .ensures)
     (x₂ .combine-stage .ensures, x₃ .combine-stage2 .ensures, x₄ .combine-stage3 .ensures)
     m _ _

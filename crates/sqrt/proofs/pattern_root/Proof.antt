@@ -7,7 +7,7 @@ use lib.Count.{leadingZeros, leading-le}
 use lib.Ieee.{binary64, ofBits}
 use lib.Ieee.Bits.{ofBits-fits}
 use Rattle.sqrt.specs.SquareRoot.{Scaled}
-use Rattle.sqrt.proofs.Answer.{Moved, moved, scaled-normal, scaled-subnormal}
+use Rattle.sqrt.proofs.Answer.{Shifted, shifted, scaled-normal, scaled-subnormal}
 use Rattle.sqrt.proofs.pattern_root.Statement.{statement}
 use Rattle.sqrt.proofs.pattern_root.Tie as tie
 
@@ -16,24 +16,24 @@ module _ (b : ℕ) (some : 0 < b) (e : b / 2 ^ 52 ≡ 0) where
   t-is : b % 2 ^ 52 ≡ b
   t-is = omega arith
 
-  moved-t : Moved (b % 2 ^ 52) (leadingZeros 64 (b % 2 ^ 52))
-  moved-t = moved (b % 2 ^ 52) (omega arith) (omega arith)
+  shifted-t : Shifted (b % 2 ^ 52) (leadingZeros 64 (b % 2 ^ 52))
+  shifted-t = shifted (b % 2 ^ 52) (omega arith) (omega arith)
 
 cast-z : tie.Need-cast-z
 cast-z c = omega (arith, leading-le 64 (c .before .args .b % 2 ^ 52))
 
 sub-z : tie.Need-sub-z
-sub-z c = let k = moved-t (c .before .args .b) (c .before .pre .0) (c .if1 .taken) in k .enough
+sub-z c = let k = shifted-t (c .before .args .b) (c .before .pre .0) (c .if1 .taken) in k .enough
 
 shl-scaled-root : tie.Need-shl-scaled-root
-shl-scaled-root c = let k = moved-t (c .before .args .b) (c .before .pre .0) (c .if1 .taken) in omega (arith, k .small)
+shl-scaled-root c = let k = shifted-t (c .before .args .b) (c .before .pre .0) (c .if1 .taken) in omega (arith, k .small)
 
 sub-scaled-root : tie.Need-sub-scaled-root
-sub-scaled-root c = let k = moved-t (c .before .args .b) (c .before .pre .0) (c .if1 .taken) in omega (arith, k .small)
+sub-scaled-root c = let k = shifted-t (c .before .args .b) (c .before .pre .0) (c .if1 .taken) in omega (arith, k .small)
 
 scaled-root-requires : tie.Need-scaled-root-requires
 scaled-root-requires c κs =
-    let k = moved-t (c .before .args .b) (c .before .pre .0) (c .if1 .taken) in (
+    let k = shifted-t (c .before .args .b) (c .before .pre .0) (c .if1 .taken) in (
       subst (λ (n : ℕ). 2 ^ 52 ≤ n) (sym (k .exact)) (k .lo),
       subst (λ (n : ℕ). n < 2 ^ 53) (sym (k .exact)) (k .hi),
       omega (arith, k .small),
@@ -56,7 +56,7 @@ returns c =
     let z = leadingZeros 64 t - 11 in
     let some = c .before .before .pre .0 in
     let e = c .before .if1 .taken in
-    let k = moved-t b some e in
+    let k = shifted-t b some e in
     let n = t-is b some e in
     c .scaled-root .ensures (ofBits binary64 b) (ofBits-fits binary64 b)
     (subst (λ (y : ℕ). Scaled y (1022 - z) (ofBits binary64 b)) (sym (k .exact)) (subst (λ (y : ℕ). Scaled (t * 2 ^ z) (1022 - z) (ofBits binary64 y)) n (scaled-subnormal t z (omega arith) (k .small))))

@@ -1,21 +1,21 @@
--- `lyapunov::report_rate` meets its contract.
+-- `lyapunov::report_diagnostic` meets its contract.
 use borrow.Author.Needs.{needs}
 use mathlib.Core.Path.{ap, _∙_, sym}
 use lib.Ieee.{Float}
 use Rattle.error.specs.Refusal.{Answer, number-of, place-of, refusal-in}
 use Rattle.diagnostics.specs.Rates.{answer}
 use Rattle.lyapunov.specs.Interface.{value-or}
-use Rattle.lyapunov.proofs.report_rate.Statement.{statement}
-use Rattle.lyapunov.proofs.report_rate.Tie as tie
+use Rattle.lyapunov.proofs.report_diagnostic.Statement.{statement}
+use Rattle.lyapunov.proofs.report_diagnostic.Tie as tie
 
-enum-known-rate : tie.Need-enum-known-rate
-enum-known-rate c = search needs
+enum-known-diagnostic : tie.Need-enum-known-diagnostic
+enum-known-diagnostic c = search needs
 
 report-requires : tie.Need-report-requires
 report-requires c κs = search needs
 
-enum-known-rate-2 : tie.Need-enum-known-rate-2
-enum-known-rate-2 c = search needs
+enum-known-diagnostic-2 : tie.Need-enum-known-diagnostic-2
+enum-known-diagnostic-2 c = search needs
 
 report-requires-2 : tie.Need-report-requires-2
 report-requires-2 c κs = search needs
@@ -25,16 +25,16 @@ returns c = search needs
 
 returns-2 : tie.Need-returns-2
 returns-2 c =
-    let e = sym (ap answer (c .before .before .before .rate2 .given .1)) in
+    let e = sym (ap answer (c .before .before .before .diagnostic2 .given .1)) in
     (c .report2 .ensures .0 ∙ ap (λ (y : Answer Float). number-of (refusal-in y)) e, c .report2 .ensures .1 ∙ ap (λ (y : Answer Float). place-of (refusal-in y)) e, ap (value-or _) e)
 
-pub report-rate-spec : {M : Type 1} → statement M
-report-rate-spec =
+pub report-diagnostic-spec : {M : Type 1} → statement M
+report-diagnostic-spec =
     tie.close
     (tie.spec
-    enum-known-rate
+    enum-known-diagnostic
     report-requires
-    enum-known-rate-2
+    enum-known-diagnostic-2
     report-requires-2
     returns
     returns-2)

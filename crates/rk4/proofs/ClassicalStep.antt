@@ -14,15 +14,15 @@ use Rattle.system.specs.declared.System.{System}
 use Rattle.system.specs.declared.System.the-variants.{Linear}
 use Rattle.rk4.specs.Stepper.{combine-stage, rk4, rk4-update, advance-by}
 use Rattle.rk4.specs.Step.{advance, advanced}
-use Rattle.rk4.specs.Stages.{moved, alike, along, tested-finite, Evaluable}
+use Rattle.rk4.specs.Stages.{classical-step, alike, along, tested-finite, Evaluable}
 use Rattle.rk4.proofs.Few.{combine-front, update-few, field-front, tangent-front}
 use Rattle.rk4.proofs.Padding.{in16-length, in16-take}
 use Rattle.rk4.proofs.Stage.{update-length}
 use Rattle.rk4.proofs.Times.{product-front}
 
-pub moved-length : (h : Float) (f₁ f₂ f₃ f₄ : List Float → List Float) (v : List Float) → length (moved h f₁ f₂ f₃ f₄ v) ≡ length v
-unfolding moved
-moved-length h f₁ f₂ f₃ f₄ v =
+pub classical-step-length : (h : Float) (f₁ f₂ f₃ f₄ : List Float → List Float) (v : List Float) → length (classical-step h f₁ f₂ f₃ f₄ v) ≡ length v
+unfolding classical-step
+classical-step-length h f₁ f₂ f₃ f₄ v =
     let k₁ = f₁ v in
     let k₂ = f₂ (combine-stage (half ⊗ h) v k₁) in
     let k₃ = f₃ (combine-stage (half ⊗ h) v k₂) in
@@ -30,7 +30,7 @@ moved-length h f₁ f₂ f₃ f₄ v =
 
 pub along-length : (S : System) (m : List Float) (h : Float) (x₁ x₂ x₃ x₄ v : List Float) → length (along S m h x₁ x₂ x₃ x₄ v) ≡ length v
 along-length S m h x₁ x₂ x₃ x₄ v =
-    moved-length h (tangent S m (take (dim S) x₁)) (tangent S m (take (dim S) x₂)) (tangent S m (take (dim S) x₃)) (tangent S m (take (dim S) x₄)) v
+    classical-step-length h (tangent S m (take (dim S) x₁)) (tangent S m (take (dim S) x₂)) (tangent S m (take (dim S) x₃)) (tangent S m (take (dim S) x₄)) v
 
 -- ---- one vector v of d entries, which is at the front of v₁: the code computes stage points of w entries
 
@@ -57,29 +57,29 @@ module _ (h : Float) (d w : ℕ) (v v₁ p₂ p₃ p₄ k₁ k₂ k₃ : List Fl
   points-front = (point-front (half ⊗ h) k₁ p₂ (b .0), point-front (half ⊗ h) k₂ p₃ (b .1), point-front h k₃ p₄ (b .2))
 
   -- the derivative maps of the stages are f₁ to f₄, and the derivatives are at the front of k₁ to k₄
-  moved-from : (f₁ f₂ f₃ f₄ : List Float → List Float) (k₄ : List Float)
+  classical-step-from : (f₁ f₂ f₃ f₄ : List Float → List Float) (k₄ : List Float)
       → take d k₁ ≡ f₁ (take d v₁)
       → take d k₂ ≡ f₂ (take d p₂)
       → take d k₃ ≡ f₃ (take d p₃)
       → take d k₄ ≡ f₄ (take d p₄)
-      → rk4-update h (k₄ ∷ k₃ ∷ k₂ ∷ k₁ ∷ []) v ≡ moved h f₁ f₂ f₃ f₄ v
-  unfolding moved
-  moved-from f₁ f₂ f₃ f₄ k₄ a₁ a₂ a₃ a₄ =
+      → rk4-update h (k₄ ∷ k₃ ∷ k₂ ∷ k₁ ∷ []) v ≡ classical-step h f₁ f₂ f₃ f₄ v
+  unfolding classical-step
+  classical-step-from f₁ f₂ f₃ f₄ k₄ a₁ a₂ a₃ a₄ =
       let q = points-front in
       update-few h k₁ k₂ k₃ k₄ v d n ∙ rw (a₄, q .2, a₃, q .1, a₂, q .0, a₁, base-front)
 
   -- a linear system: d of the entries that are updated count
-  pub linear-moved : (m k₄ next : List Float)
+  pub linear-step : (m k₄ next : List Float)
       → take d k₁ ≡ times (chunks d d m) v₁
       → take d k₂ ≡ times (chunks d d m) p₂
       → take d k₃ ≡ times (chunks d d m) p₃
       → take d k₄ ≡ times (chunks d d m) p₄
       → take d next ≡ rk4-update h (k₄ ∷ k₃ ∷ k₂ ∷ k₁ ∷ []) (take d v₁)
       → take (length v) next ≡ alike h (times (chunks d d m)) v
-  linear-moved m k₄ next a₁ a₂ a₃ a₄ u =
+  linear-step m k₄ next a₁ a₂ a₃ a₄ u =
       let f = times (chunks d d m) in
       rw (n, u, base-front)
-      (moved-from f f f f k₄ (product-front d d m v₁ k₁ a₁) (product-front d d m p₂ k₂ a₂) (product-front d d m p₃ k₃ a₃) (product-front d d m p₄ k₄ a₄))
+      (classical-step-from f f f f k₄ (product-front d d m v₁ k₁ a₁) (product-front d d m p₂ k₂ a₂) (product-front d d m p₃ k₃ a₃) (product-front d d m p₄ k₄ a₄))
 
 -- ---- dimension 2 or 3: the code computes stage points of 3 entries, and updates a part of w entries that is the whole
 
@@ -100,7 +100,7 @@ module _ (S : System) (m : List Float) (h : Float) where
       let g = tangent S m in
       let d = dim S in
       whole-updated h (k₄ ∷ k₃ ∷ k₂ ∷ k₁ ∷ []) t ys w all u
-      ∙ moved-from h d 3 t t₁ t₂ t₃ t₄ k₁ k₂ k₃ (sym n) (omega arith) (omega arith) e b (g (take d x₁)) (g (take d x₂)) (g (take d x₃)) (g (take d x₄)) k₄
+      ∙ classical-step-from h d 3 t t₁ t₂ t₃ t₄ k₁ k₂ k₃ (sym n) (omega arith) (omega arith) e b (g (take d x₁)) (g (take d x₂)) (g (take d x₃)) (g (take d x₄)) k₄
       (tangent-front S m x₁ t₁ k₁ a₁)
       (tangent-front S m x₂ t₂ k₂ a₂)
       (tangent-front S m x₃ t₃ k₃ a₃)
@@ -112,19 +112,19 @@ module _ (S : System) (m : List Float) (h : Float) where
   leaves x t n y vs e f = ap₂ tested-finite e f
 
   pub advance-state : (x : List Float) → advance S m h x .0 ≡ alike h (field S m) x
-  unfolding advance advance-by rk4 moved
+  unfolding advance advance-by rk4 classical-step
   advance-state x = refl
 
   -- every direction, with the stage points y₁ to y₄
   abbrev at-points : (n : ℕ) (t y₁ y₂ y₃ y₄ : List Float) → List Float
-  at-points n t y₁ y₂ y₃ y₄ = concat (map (λ v. moved h (tangent S m y₁) (tangent S m y₂) (tangent S m y₃) (tangent S m y₄) v) (chunks (dim S) n t))
+  at-points n t y₁ y₂ y₃ y₄ = concat (map (λ v. classical-step h (tangent S m y₁) (tangent S m y₂) (tangent S m y₃) (tangent S m y₄) v) (chunks (dim S) n t))
 
   points-are : (n : ℕ) (t x y₁ y₂ y₃ y₄ : List Float) → y₁ ≡ x
       → y₂ ≡ combine-stage (half ⊗ h) x (field S m x)
       → y₃ ≡ combine-stage (half ⊗ h) x (field S m y₂)
       → y₄ ≡ combine-stage h x (field S m y₃)
       → at-points n t y₁ y₂ y₃ y₄ ≡ concat (map (advance S m h x .1) (chunks (dim S) n t))
-  unfolding advance advance-by rk4 moved
+  unfolding advance advance-by rk4 classical-step
   points-are n t x y₁ y₂ y₃ y₄ e p₂ p₃ p₄ = simp (p₄, p₃, p₂, e)
 
   pub small-step : (x t : List Float) (n : ℕ) (x₁ x₂ x₃ x₄ k₁ k₂ k₃ k₄ ys vs : List Float) (w : ℕ) → dim S ≡ length x → length x ≤ 3 → length x ≤ w
@@ -147,7 +147,7 @@ module _ (S : System) (m : List Float) (h : Float) where
       let c₃ = field-front S m x₃ k₃ a₃ in
       leaves x t n (ys ++ drop w x) vs
       (whole-updated h (k₄ ∷ k₃ ∷ k₂ ∷ k₁ ∷ []) x ys w all u
-      ∙ moved-from h d 3 x x₁ x₂ x₃ x₄ k₁ k₂ k₃ (sym l) (omega arith) (omega arith) e b f f f f k₄ c₁ c₂ c₃ (field-front S m x₄ k₄ a₄)
+      ∙ classical-step-from h d 3 x x₁ x₂ x₃ x₄ k₁ k₂ k₃ (sym l) (omega arith) (omega arith) e b f f f f k₄ c₁ c₂ c₃ (field-front S m x₄ k₄ a₄)
       ∙ sym (advance-state x))
       (v ∙ rw (← l) (points-are n t x (take d x₁) (take d x₂) (take d x₃) (take d x₄) i (q .0 ∙ rw (c₁, i)) (q .1 ∙ rw c₂) (q .2 ∙ rw c₃)))
 
@@ -164,5 +164,5 @@ module _ (S : System) (d : ℕ) (e : S ≡ Linear d) (m x t : List Float) (n : �
   -- what a step leaves, given that the state and the directions have the same derivative map
   pub linear-leaves : (h : Float) (y vs : List Float) → y ≡ alike h (times (chunks d d m)) x → vs ≡ concat (map (alike h (times (chunks d d m))) (chunks d n t))
       → tested-finite y vs ≡ advanced S m x t n h
-  unfolding field tangent advance advance-by rk4 moved
+  unfolding field tangent advance advance-by rk4 classical-step
   linear-leaves h y vs f g = rw e (leaves (Linear d) m h x t n y vs f g)

@@ -1,7 +1,7 @@
--- `report::rates_text` meets its contract: each arm is a line of the definition.
+-- `report::diagnostics_text` meets its contract: each arm is a line of the definition.
 use borrow.Author.Needs.{needs}
-use Rattle.report.proofs.rates_text.Statement.{statement}
-use Rattle.report.proofs.rates_text.Tie as tie
+use Rattle.report.proofs.diagnostics_text.Statement.{statement}
+use Rattle.report.proofs.diagnostics_text.Tie as tie
 
 enum-known-dimension : tie.Need-enum-known-dimension
 enum-known-dimension c = search needs
@@ -38,8 +38,8 @@ returns-2 c =
 returns-3 : tie.Need-returns-3
 returns-3 c = rw (c .before .before .dimension2 .given .1) (c .refusal-text2 .ensures)
 
-pub rates-text-spec : {M : Type 1} → statement M
-rates-text-spec =
+pub diagnostics-text-spec : {M : Type 1} → statement M
+diagnostics-text-spec =
     tie.close
     (tie.spec
     enum-known-dimension

@@ -1,8 +1,8 @@
--- `floats::total_order` meets its contract.
+-- `floats::total_cmp` meets its contract.
 use borrow.Author.Needs.{needs}
 use Rattle.floats.proofs.Magnitude.{rank-clear, rank-set}
-use Rattle.floats.proofs.total_order.Statement.{statement}
-use Rattle.floats.proofs.total_order.Tie as tie
+use Rattle.floats.proofs.total_cmp.Statement.{statement}
+use Rattle.floats.proofs.total_cmp.Tie as tie
 
 to-bits-requires : tie.Need-to-bits-requires
 to-bits-requires c κs = search needs
@@ -19,5 +19,5 @@ returns c = rank-clear (c .before .before .args .x) (c .before .to-bits .result)
 returns-2 : tie.Need-returns-2
 returns-2 c = rank-set (c .before .before .args .x) (c .before .to-bits .result) (c .before .to-bits .ensures) (c .if1 .left)
 
-pub total-order-spec : {M : Type 1} → statement M
-total-order-spec = tie.close (tie.spec to-bits-requires add-result sub-result returns returns-2)
+pub total-cmp-spec : {M : Type 1} → statement M
+total-cmp-spec = tie.close (tie.spec to-bits-requires add-result sub-result returns returns-2)
