@@ -11,6 +11,18 @@ ghost use Rattle.floats.specs.Finite.{positive, first-not-finite, index}
 ghost use Rattle.floats.specs.Magnitude.{magnitude};
 ghost use Rattle.floats.specs.TotalOrder.{rank};
 
+// The bit pattern of +infinity.
+pub const INFINITY_BITS: u64 = 0x7ff0_0000_0000_0000;
+
+// That of the least positive normal value, 2^-1022.
+pub const LEAST_NORMAL_BITS: u64 = 0x0010_0000_0000_0000;
+
+// 2^52: below it lies the fraction in a bit pattern, and from it on the exponent.
+pub const EXPONENT_UNIT: u64 = 0x0010_0000_0000_0000;
+
+// 2^63, the sign in a bit pattern.
+pub const SIGN_BIT: u64 = 0x8000_0000_0000_0000;
+
 // Where in a slice, if anywhere.
 pub enum Position {
     At(usize),
@@ -20,7 +32,7 @@ pub enum Position {
 pub fn is_finite(x: f64) -> bool
     ensures { λ r. ⌜ r ≡ finite x ⌝ }
 {
-    let top = f64::from_bits(0x7ff0_0000_0000_0000);
+    let top = f64::from_bits(INFINITY_BITS);
     if x < top { -top < x } else { false }
 }
 
@@ -60,8 +72,8 @@ pub fn total_cmp(x: f64) -> u64
     ensures { λ r. ⌜ r ≡ rank x ⌝ }
 {
     let b = to_bits(x);
-    if b < 0x8000_0000_0000_0000 {
-        b + 0x8000_0000_0000_0000
+    if b < SIGN_BIT {
+        b + SIGN_BIT
     } else {
         0xffff_ffff_ffff_ffff - b
     }

@@ -113,10 +113,10 @@ fn normalise(s: &mut [f64], squared: f64) -> Normalised
     ensures { λ r. ⌜ (r ≡ Spec.normalised (now (s .entry))) × (now (s .exit) ≡ Spec.divided (now (s .entry))) ⌝ }
 {
     let norm = sqrt::sqrt(squared);
-    if norm <= f64::from_bits(0x0010_0000_0000_0000) {
+    if norm <= f64::from_bits(floats::LEAST_NORMAL_BITS) {
         return Normalised::Collapsed;
     }
-    if norm < f64::from_bits(0x7ff0_0000_0000_0000) {
+    if norm < f64::from_bits(floats::INFINITY_BITS) {
         let ln::Logarithm::Value(l) = ln::ln(norm) else {
             return Normalised::Collapsed;
         };

@@ -42,16 +42,16 @@ fn normal_ln(z: f64) -> f64
     ensures { λ r. ⌜ r ≡ Spec.log z ⌝ }
 {
     let b = f64::to_bits(z) + 0x0009_5f62_0000_0000;
-    let m = f64::from_bits(b % 0x0010_0000_0000_0000 + 0x3fe6_a09e_0000_0000);
-    let k = (b / 0x0010_0000_0000_0000) as i32 - 1023;
+    let m = f64::from_bits(b % floats::EXPONENT_UNIT + 0x3fe6_a09e_0000_0000);
+    let k = (b / floats::EXPONENT_UNIT) as i32 - 1023;
     series(m, k as f64)
 }
 
 pub fn ln(z: f64) -> Logarithm
     ensures { λ r. ⌜ Spec.answer r ≡ Spec.logarithm z ⌝ }
 {
-    if z >= f64::from_bits(0x0010_0000_0000_0000) {
-        if z < f64::from_bits(0x7ff0_0000_0000_0000) {
+    if z >= f64::from_bits(floats::LEAST_NORMAL_BITS) {
+        if z < f64::from_bits(floats::INFINITY_BITS) {
             return Logarithm::Value(normal_ln(z));
         }
     }

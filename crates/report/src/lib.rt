@@ -45,7 +45,7 @@ fn from_le_bytes(bytes: &[u8], at: usize) -> u64
 fn from_bits(pattern: u64) -> f64
     ensures { λ r. ⌜ r ≡ ofBits binary64 pattern ⌝ }
 {
-    if pattern % 0x8000_0000_0000_0000 > 0x7ff0_0000_0000_0000 {
+    if pattern % floats::SIGN_BIT > floats::INFINITY_BITS {
         0.0 / 0.0
     } else {
         f64::from_bits(pattern)

@@ -20,16 +20,19 @@ pub struct Draw {
     pub value: f64,
 }
 
+// 2^32, by which a number of 64 bits is taken in halves.
+const BASE: u64 = 4294967296;
+
 // a * b, modulo 2^64, by halves of 32 bits.
 fn wrapping_mul(a: u64, b: u64) -> u64
     ensures { λ r. ⌜ r ≡ a * b % 2 ^ 64 ⌝ }
 {
-    let a0 = a % 4294967296;
-    let a1 = a / 4294967296;
-    let b0 = b % 4294967296;
-    let b1 = b / 4294967296;
-    let mid = (a1 * b0 % 4294967296 + a0 * b1 % 4294967296) % 4294967296;
-    std::num::wrapping_add_u64(a0 * b0, mid * 4294967296)
+    let a0 = a % BASE;
+    let a1 = a / BASE;
+    let b0 = b % BASE;
+    let b1 = b / BASE;
+    let mid = (a1 * b0 % BASE + a0 * b1 % BASE) % BASE;
+    std::num::wrapping_add_u64(a0 * b0, mid * BASE)
 }
 
 // The state after this one.

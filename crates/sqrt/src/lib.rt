@@ -84,7 +84,7 @@ fn scaled_root(a: u64, p: u64) -> f64
     let k = p / 2;
     let w = whole_root(a, p % 2);
     let s = longer_root(w.root, w.rest);
-    f64::from_bits(k * 4503599627370496 + (s.root + 1) / 2)
+    f64::from_bits(k * floats::EXPONENT_UNIT + (s.root + 1) / 2)
 }
 
 // Of a pattern that is a number above zero and no infinity.
@@ -92,13 +92,13 @@ fn pattern_root(b: u64) -> f64
     requires { ⌜ (0 < b) × (b < 0x7ff0_0000_0000_0000) ⌝ }
     ensures { λ r. ⌜ r ≡ Spec.root (ofBits binary64 b) ⌝ }
 {
-    let e = b / 4503599627370496;
-    let t = b % 4503599627370496;
+    let e = b / floats::EXPONENT_UNIT;
+    let t = b % floats::EXPONENT_UNIT;
     if e == 0 {
         let z = u64::leading_zeros(t) as u64 - 11;
         scaled_root(t << z, 1022 - z)
     } else {
-        scaled_root(4503599627370496 + t, e + 1021)
+        scaled_root(floats::EXPONENT_UNIT + t, e + 1021)
     }
 }
 
@@ -111,7 +111,7 @@ pub fn sqrt(x: f64) -> f64
     }
     let b = f64::to_bits(x);
     if 0 < b {
-        if b < 0x7ff0_0000_0000_0000 {
+        if b < floats::INFINITY_BITS {
             return pattern_root(b);
         }
     }
