@@ -89,7 +89,7 @@
  *   10  state_len is not the dimension
  *   11  an entry of the start state is not finite; place: the first such index
  *   13  an output is too short; place: the first short one (0 rows, 1 exponents, 2 final_state);
- *       the orthonormaliser's numbers have place 0
+ *       the orthonormaliser's norms have place 0
  *   19  a step's tangents_len is not dimension * count, or count is above LYAPUNOV_MAX_DIMENSION
  * The circuit:
  *   14  a direction collapsed: its squared length is 0 or not finite; place: the direction, from 0
@@ -277,16 +277,16 @@ uint64_t lyapunov_step(
  *   tangents    count = tangents_len / dimension directions one after the other; leftover entries
  *               are not touched
  *   dimension   any number above 0, also above 16 and above tangents_len
- *   numbers     at least 2 * count floats. Written are count logarithms of the lengths, then count
+ *   norms       at least 2 * count floats. Written are count logarithms of the lengths, then count
  *               squared lengths, each taken after clearing and before the division by the length
  *
  * Tests 7, then 13; refused by one of these, only *place is written. Refused by 14 at direction v:
- * each direction i below v is finished, with its numbers at i and count + i; direction v is cleared
+ * each direction i below v is finished, with its norms at i and count + i; direction v is cleared
  * and not divided; all else in both slices is as it was.
  */
 uint64_t lyapunov_modified_gram_schmidt(
     double *tangents, size_t tangents_len, size_t dimension,
-    double *numbers, size_t numbers_len, uint64_t *place);
+    double *norms, size_t norms_len, uint64_t *place);
 
 /*
  * The Kaplan-Yorke dimension of a spectrum of 1 to 256 finite exponents in any order, to *out. It

@@ -98,7 +98,7 @@ pub fn splitmix64_symmetric_unit(value: u64) -> f64 {
 pub fn modified_gram_schmidt(
     tangents: &mut [f64],
     dimension: usize,
-    numbers: &mut [f64],
+    norms: &mut [f64],
 ) -> Refusal {
     let mut place = UNWRITTEN;
     // SAFETY: each pointer comes with the length of its slice, and the slices do not overlap.
@@ -107,8 +107,8 @@ pub fn modified_gram_schmidt(
             tangents.as_mut_ptr(),
             tangents.len(),
             dimension,
-            numbers.as_mut_ptr(),
-            numbers.len(),
+            norms.as_mut_ptr(),
+            norms.len(),
             &mut place,
         )
     };

@@ -30,8 +30,8 @@ group!("step" {
         tangents: *mut f64,
         tangents_len: usize,
         dimension: usize,
-        numbers: *mut f64,
-        numbers_len: usize,
+        norms: *mut f64,
+        norms_len: usize,
         place: *mut u64,
     ) -> u64;
     fn lyapunov_step(
