@@ -10,9 +10,9 @@ use lib.Dec.{T, leb, eqb, not-T, eqb→eq, lit<}
 use lib.Arith.{lt→nleb, digits-lt, digits-div, digits-mod}
 use lib.IntN.{ℤ}
 use lib.Ieee.{Float, nan, inf, fin, binary64, up, down, size, odd, ofFields, ofBits, toBits, nanBits}
-use lib.Ieee.Bits.{is-false, cond-no, nanBits-is, nanBits-above}
+use lib.Ieee.Bits.{is-false, cond-no, nanBits-above}
 use lib.Ieee.Exact.{HasValue, odd-sign}
-use Rattle.floats.proofs.Units.{U, value-no-nan}
+use Rattle.floats.proofs.Units.{U}
 
 -- ---- the pattern of a value of n units with the sign clear
 abbrev pub units-pattern : ℕ → ℕ
@@ -94,11 +94,7 @@ carried-value k q lo hi h = go (eq-or-lt-of-le hi)
         subst (λ (z : ℕ). HasValue (ofBits binary64 z) false (q * 2 ^ k) U) (sum-one k q lo)
         (subst (λ (z : ℕ). HasValue (ofBits binary64 (suc k * 2 ^ 52 + (q - 2 ^ 52))) false (z * 2 ^ k) U) (one q lo) (normal-value k (q - 2 ^ 52) (in-one k h) (less q lo l)))
 
--- a pattern whose value is a number is no NaN's
-pub no-nan-bits : (b X : ℕ) → HasValue (ofBits binary64 b) false X U → T (not (nanBits binary64 b))
-no-nan-bits b X h = subst (λ (z : Bool). T (not z)) (sym (nanBits-is binary64 b)) (value-no-nan X (ofBits binary64 b) h)
-
--- nor is one that is not above the infinity's but for its sign, or that is below it
+-- a pattern that is not above the infinity's but for its sign, or that is below it, is no NaN's
 pub no-nan-pattern : (u : ℕ) → u % 2 ^ 63 ≤ 0x7ff0_0000_0000_0000 → T (not (nanBits binary64 u))
 no-nan-pattern u h = subst (λ (b : Bool). T (not b)) (sym (nanBits-above binary64 u ∙ le-ltb 0x7ff0_0000_0000_0000 (u % 2 ^ 63) h)) tt
 

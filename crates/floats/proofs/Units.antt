@@ -1,13 +1,13 @@
 -- Values in units of the format's smallest one, 2 ^ -1074: each is a whole number of units with few digits, and the order of the values is that of the numbers.
 use mathlib.Core.Path.{_≡_, refl, sym, ap, _∙_, subst}
-use mathlib.Core.Bool.{true, false, not, _&&_, true≢false}
+use mathlib.Core.Bool.{true, false, _&&_, true≢false}
 use Prim.Native.Nat.{ℕ, zero, suc, _+_, _-_, _*_, _%_, _^_, _≤_, _<_}
 use native.Mathlib.Nat.{le-of-eq, lt-of-lt-of-le, lt-of-le-of-lt, lt-irrefl, lt-of-not-le, not-le-of-lt, zero-lt-suc, mul-assoc, mul-right-comm, mul-one, zero-mul, mul-pos, mul-lt-mul-of-pos-right, lt-of-mul-lt-mul-right}
 use native.Mathlib.Decide.{decLe}
 use lib.IntN.{ℤ, pos, negsuc}
 use lib.Dec.{T, leb, ltb, eqb, leb→le, ltb→lt, lt→ltb, lit<}
 use lib.Pow.{pow-pos, pow-add, pow-lt}
-use lib.Ieee.{Float, nan, inf, fin, binary64, up, down, fits, isNan, lt}
+use lib.Ieee.{Float, nan, inf, fin, binary64, up, down, fits, lt}
 use lib.Ieee.Fits.{and-l, and-r, up-pos, down-pos}
 use lib.Ieee.Digits.{back}
 use lib.Ieee.Exact.{HasValue}
@@ -62,12 +62,6 @@ module _ (X : ℕ) where
   value-finite nan h = absurd h
   value-finite (inf s) h = absurd h
   value-finite (fin s m e) h = tt
-
-  pub value-no-nan : (x : Float) → HasValue x false X U → T (not (isNan x))
-  unfolding isNan
-  value-no-nan nan h = absurd h
-  value-no-nan (inf s) h = absurd h
-  value-no-nan (fin s m e) h = tt
 
 -- ---- the order, in units
 -- the two sides of a comparison, as multiples of the product of the denominators

@@ -83,9 +83,6 @@ fields b lo hi = elim (decLe (0x6a09e * 2 ^ 32) (b % 2 ^ 52)) [
   | no g ↦ record { e = b / 2 ^ 52 - 1; f = 1022; own = omega arith; own-in = omega arith; of-significand = omega arith; significand-in = omega arith; apart = omega arith }
 ]
 
-high-word : (n B : ℕ) → n ≡ B % 2 ^ 52 + 0x3fe6a09e * 2 ^ 32 → (0x3fe6a09e ≤ n / 2 ^ 32) × (n / 2 ^ 32 < 0x3ff6a09e) × (n < 0x7ff0_0000_0000_0000)
-high-word n B e = (omega arith, omega arith, omega arith)
-
 module _ (z : Float) (held : T (fits binary64 z)) (h : T (normal z)) where
   abbrev b : ℕ
   b = toBits binary64 z
@@ -100,11 +97,7 @@ module _ (z : Float) (held : T (fits binary64 z)) (h : T (normal z)) where
   bits-significand : toBits binary64 (significand z) ≡ n
   unfolding significand
   bits-significand =
-      let w = high-word n (offset-bits z) refl in
-      toBits-ofBits binary64 n (widen n (w .2)) (subst (λ (t : Bool). T (not t)) (nanBits-is binary64 n) (no-nan-under n (w .2)))
-    where
-      widen : (n : ℕ) → n < 0x7ff0_0000_0000_0000 → n < 2 ^ 64
-      widen n h = omega arith
+      toBits-ofBits binary64 n (omega arith) (subst (λ (t : Bool). T (not t)) (nanBits-is binary64 n) (no-nan-under n (omega arith)))
 
   value-z : HasValue z false ((2 ^ 52 + b % 2 ^ 52) * 2 ^ the-fields .e) U
   value-z =
@@ -120,10 +113,9 @@ module _ (z : Float) (held : T (fits binary64 z)) (h : T (normal z)) where
   split-at : Split z (significand z) (power z)
   unfolding power
   split-at =
-      let w = high-word n (offset-bits z) refl in
       record {
-        least = subst (λ (y : ℕ). 0x3fe6a09e ≤ y / 2 ^ 32) (sym bits-significand) (w .0);
-        most = subst (λ (y : ℕ). y / 2 ^ 32 < 0x3ff6a09e) (sym bits-significand) (w .1);
+        least = rw bits-significand (omega arith);
+        most = rw bits-significand (omega arith);
         whole =
             ratio (num z) (den z) (num (significand z)) (den (significand z)) (2 ^ 52 + b % 2 ^ 52) (up (pos (offset-bits z / 2 ^ 52) -ℤ pos 1023)) (down (pos (offset-bits z / 2 ^ 52) -ℤ pos 1023)) (the-fields .e) (the-fields .f)
             (value→cross z ((2 ^ 52 + b % 2 ^ 52) * 2 ^ the-fields .e) U value-z)

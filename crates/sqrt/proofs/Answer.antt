@@ -1,6 +1,6 @@
 -- What the code computes of a significand a and an exponent p is the root of the value that they stand for (`scaled-law`).
 use mathlib.Core.Path.{_≡_, refl, sym, ap, _∙_, subst}
-use mathlib.Core.Bool.{true, false, not, true≢false}
+use mathlib.Core.Bool.{true, false, true≢false}
 use Prim.Native.Nat.{ℕ, zero, suc, _+_, _-_, _*_, _/_, _%_, _^_, _≤_, _<_}
 use native.Mathlib.Nat.{div-add-mod', mod-lt, mod-eq-of-lt, lt-of-not-le, not-le-of-lt, le-trans, le-of-eq, lt-of-lt-of-le, lt-of-le-of-lt, lt-irrefl, mul-assoc, mul-left-comm, mul-right-comm, mul-one, zero-mul, mul-pos, mul-le-mul-left, mul-le-mul-right, mul-lt-mul-of-pos-right, eq-of-mul-eq-mul-right}
 use native.Mathlib.Omega.{arith}
@@ -8,7 +8,7 @@ use lib.Dec.{T, lit≤}
 use lib.Pow.{pow-pos, pow-add, pow-mono, shl-lt}
 use lib.Count.{leadingZeros, leading-top}
 use native.Mathlib.Decide.{decLe}
-use lib.Ieee.{Float, nan, inf, fin, binary64, up, down, fits, ofBits, nanBits}
+use lib.Ieee.{Float, nan, inf, fin, binary64, up, down, fits, ofBits}
 use lib.Ieee.Fits.{down-pos}
 use lib.Ieee.Bits.{ofBits-fits}
 use lib.Ieee.Exact.{HasValue}
@@ -17,7 +17,7 @@ use Rattle.sqrt.proofs.Whole.{RootOf}
 use Rattle.floats.proofs.Units.{U, few-digits}
 use Rattle.sqrt.proofs.Unique.{only-one}
 use Rattle.sqrt.proofs.Meets.{closest-at, square-cancel, pred-of, root-is}
-use Rattle.floats.proofs.Pattern.{one-digit-more, carried-value, no-nan-bits, normal-value, subnormal-value}
+use Rattle.floats.proofs.Pattern.{one-digit-more, carried-value, normal-value, subnormal-value}
 
 -- ---- from a partial root to the whole root
 pub root-of-partial : (s r n : ℕ) → s * s + r ≡ n → r ≤ 2 * s → RootOf s n
@@ -92,14 +92,11 @@ module _ (a p s : ℕ) (alo : 2 ^ 52 ≤ a) (plo : 900 ≤ p) (phi : p < 4000) (
   s-lo : 2 ^ 53 ≤ s
   s-lo = large-root (a * (1 + p % 2)) s A-lo is
 
-  pub answer-value : HasValue (ofBits binary64 (answer p s)) false ((s + 1) / 2 * 2 ^ (p / 2)) U
+  answer-value : HasValue (ofBits binary64 (answer p s)) false ((s + 1) / 2 * 2 ^ (p / 2)) U
   answer-value = carried-value (p / 2) ((s + 1) / 2) (half-lo s s-lo) (half-hi s small) (in-range p phi)
     where
       in-range : (p : ℕ) → p < 4000 → p / 2 < 2045
       in-range p h = omega arith
-
-  pub answer-no-nan : T (not (nanBits binary64 (answer p s)))
-  answer-no-nan = no-nan-bits (answer p s) ((s + 1) / 2 * 2 ^ (p / 2)) answer-value
 
   closest-answer : (x : Float) (X b j : ℕ) → HasValue x false X U → b < 2 ^ 53 → X * U ≡ b * 2 ^ (j + 1074) → X * U ≡ a * 2 ^ (p + 52) → Closest x (ofBits binary64 (answer p s))
   closest-answer x X b j v few form e =

@@ -3,17 +3,17 @@
 use crate::{logarithm, square_root, Refusal};
 
 /// Orthonormalises the directions of length `d` that lie one after the other; writes their
-/// logarithms and then their squared lengths into `numbers`.
+/// logarithms and then their squared lengths into `norms`.
 pub fn orthonormalise(
     directions: &mut [f64],
     d: usize,
-    numbers: &mut [f64],
+    norms: &mut [f64],
 ) -> Result<(), Refusal> {
     if d == 0 {
         return Err(Refusal::of(7));
     }
     let count = directions.len() / d;
-    if numbers.len() / 2 < count {
+    if norms.len() / 2 < count {
         return Err(Refusal::of(13));
     }
     for v in 0..count {
@@ -24,8 +24,8 @@ pub fn orthonormalise(
         let Some((log, squared)) = normalise(direction) else {
             return Err(Refusal::at(14, v as u64));
         };
-        numbers[v] = log;
-        numbers[count + v] = squared;
+        norms[v] = log;
+        norms[count + v] = squared;
     }
     Ok(())
 }
@@ -72,28 +72,28 @@ mod tests {
     #[test]
     fn marked_directions() {
         let mut directions = [2.0, 0.0, 2.0, 3.0];
-        let mut numbers = [UNTOUCHED; 5];
-        assert_eq!(orthonormalise(&mut directions, 2, &mut numbers), Ok(()));
+        let mut norms = [UNTOUCHED; 5];
+        assert_eq!(orthonormalise(&mut directions, 2, &mut norms), Ok(()));
         assert_eq!(directions, [1.0, 0.0, 0.0, 1.0]);
         let logs = [logarithm(2.0).unwrap(), logarithm(3.0).unwrap()];
-        assert_eq!(numbers, [logs[0], logs[1], 4.0, 9.0, UNTOUCHED]);
+        assert_eq!(norms, [logs[0], logs[1], 4.0, 9.0, UNTOUCHED]);
     }
 
     #[test]
     fn marked_collapse() {
         let mut directions = [1.0, 0.0, 2.0, 0.0];
-        let mut numbers = [UNTOUCHED; 4];
-        let answer = orthonormalise(&mut directions, 2, &mut numbers);
+        let mut norms = [UNTOUCHED; 4];
+        let answer = orthonormalise(&mut directions, 2, &mut norms);
         assert_eq!(answer, Err(Refusal::at(14, 1)));
         assert_eq!(directions, [1.0, 0.0, 0.0, 0.0]);
-        assert_eq!(numbers, [0.0, UNTOUCHED, 1.0, UNTOUCHED]);
+        assert_eq!(norms, [0.0, UNTOUCHED, 1.0, UNTOUCHED]);
     }
 
     #[test]
     fn leftover_entries_stay() {
         let mut directions = [0.0, 4.0, 9.0];
-        let mut numbers = [UNTOUCHED; 2];
-        assert_eq!(orthonormalise(&mut directions, 2, &mut numbers), Ok(()));
+        let mut norms = [UNTOUCHED; 2];
+        assert_eq!(orthonormalise(&mut directions, 2, &mut norms), Ok(()));
         assert_eq!(directions, [0.0, 1.0, 9.0]);
     }
 
@@ -109,11 +109,11 @@ mod tests {
     #[test]
     fn the_smallest_nonzero_squared_length_is_no_collapse() {
         let two_to_minus_537 = f64::from_bits((1023 - 537) << 52);
-        let mut numbers = [0.0; 2];
-        let answer = orthonormalise(&mut [two_to_minus_537], 1, &mut numbers);
+        let mut norms = [0.0; 2];
+        let answer = orthonormalise(&mut [two_to_minus_537], 1, &mut norms);
         assert_eq!(answer, Ok(()));
-        assert_eq!(numbers[1], f64::from_bits(1));
-        let answer = orthonormalise(&mut [two_to_minus_537 / 2.0], 1, &mut numbers);
+        assert_eq!(norms[1], f64::from_bits(1));
+        let answer = orthonormalise(&mut [two_to_minus_537 / 2.0], 1, &mut norms);
         assert_eq!(answer, Err(Refusal::at(14, 0)));
     }
 }

@@ -169,7 +169,7 @@ struct Run<'a> {
     state: Vec<f64>,
     directions: Vec<f64>,
     /// The logarithms of the last orthonormalisation, then its squared lengths.
-    numbers: Vec<f64>,
+    norms: Vec<f64>,
     sums: Vec<f64>,
     faint: [u64; MAX_DIMENSION],
     steps: u64,
@@ -184,7 +184,7 @@ impl<'a> Run<'a> {
             time,
             state: state.to_vec(),
             directions: vec![0.0; config.top_k * state.len()],
-            numbers: vec![0.0; 2 * config.top_k],
+            norms: vec![0.0; 2 * config.top_k],
             sums: vec![0.0; config.top_k],
             faint: [0; MAX_DIMENSION],
             steps: 0,
@@ -221,7 +221,7 @@ impl<'a> Run<'a> {
             generator = next;
             *entry = symmetric_unit(output);
         }
-        orthonormalise(&mut self.directions, self.state.len(), &mut self.numbers)
+        orthonormalise(&mut self.directions, self.state.len(), &mut self.norms)
     }
 
     fn window(&mut self) -> Result<(), Refusal> {
@@ -233,8 +233,8 @@ impl<'a> Run<'a> {
             self.time = next;
             self.steps += 1;
         }
-        orthonormalise(&mut self.directions, self.state.len(), &mut self.numbers)?;
-        let squared_lengths = &self.numbers[self.config.top_k..];
+        orthonormalise(&mut self.directions, self.state.len(), &mut self.norms)?;
+        let squared_lengths = &self.norms[self.config.top_k..];
         for (count, squared) in self.faint.iter_mut().zip(squared_lengths) {
             if *squared < FAINT_BELOW {
                 *count += 1;
@@ -249,8 +249,8 @@ impl<'a> Run<'a> {
         let elapsed = self.duration * number as f64;
         row[0] = self.time;
         for i in 0..k {
-            self.sums[i] += self.numbers[i];
-            row[1 + i] = self.numbers[i] / self.duration;
+            self.sums[i] += self.norms[i];
+            row[1 + i] = self.norms[i] / self.duration;
             row[1 + k + i] = self.sums[i] / elapsed;
         }
     }

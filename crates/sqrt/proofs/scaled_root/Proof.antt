@@ -1,8 +1,10 @@
 -- `sqrt::scaled_root` meets its contract.
 use mathlib.Core.Path.{ap, _∙_}
 use Prim.Native.Nat.{ℕ, _+_, _*_, _%_, _^_}
+use native.Mathlib.Omega.{arith}
+use Rattle.floats.proofs.Pattern.{no-nan-under}
 use Rattle.sqrt.proofs.Whole.{RootOf}
-use Rattle.sqrt.proofs.Answer.{root-of-partial, answer-no-nan, scaled-law}
+use Rattle.sqrt.proofs.Answer.{root-of-partial, scaled-law}
 use borrow.Author.Needs.{needs}
 use Rattle.sqrt.proofs.scaled_root.Statement.{statement}
 use Rattle.sqrt.proofs.scaled_root.Tie as tie
@@ -32,7 +34,7 @@ found c =
     root-of-partial (t .result .root) (t .result .rest) (a * (1 + p % 2) * 2 ^ 54) (t .ensures .0 ∙ ap (λ (n : ℕ). n * 2 ^ 54) (w .ensures .0)) (t .ensures .1)
 
 float-from-bits-result : tie.Need-float-from-bits-result
-float-from-bits-result c = answer-no-nan (c .before .before .before .args .a) (c .before .before .before .args .p) (c .before .longer-root .result .root) (c .before .before .before .pre .0) (c .before .before .before .pre .2) (c .before .before .before .pre .3) (c .before .longer-root .ensures .2) (found c)
+float-from-bits-result c = no-nan-under _ (omega (arith, c .before .longer-root .ensures .2))
 
 returns : tie.Need-returns
 returns c = scaled-law (c .before .before .before .args .a) (c .before .before .before .args .p) (c .before .longer-root .result .root) (c .before .before .before .pre .0) (c .before .before .before .pre .2) (c .before .before .before .pre .3) (c .before .longer-root .ensures .2) (found c)
