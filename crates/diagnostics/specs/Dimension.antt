@@ -2,9 +2,8 @@
 use mathlib.Core.Bool.{cond}
 use mathlib.Core.List.{List, [], _∷_}
 use Prim.Native.Nat.{ℕ, zero, suc}
-use lib.IntN.{pos}
-use lib.Ieee.{Float, binary64, add, div, lt, ofInt}
-use Rattle.floats.specs.Arithmetic.{_⊕_, _⊘_, zero⁺}
+use lib.Ieee.{Float, add, div, lt, ofInt}
+use Rattle.floats.specs.Arithmetic.{_⊕_, _⊘_, whole, zero⁺}
 use Rattle.floats.specs.Magnitude.{magnitude}
 use Rattle.diagnostics.specs.Sorting.{descending}
 
@@ -12,12 +11,12 @@ use Rattle.diagnostics.specs.Sorting.{descending}
 unfoldable pub stopped : ℕ → Float → Float → Float
 unfolding add div ofInt
 stopped zero s x = zero⁺
-stopped (suc i) s x = ofInt binary64 (pos (suc i)) ⊕ s ⊘ magnitude x
+stopped (suc i) s x = whole (suc i) ⊕ s ⊘ magnitude x
 
 -- the walk from index i on, with the sum s so far: it stops at the first index where the next sum is below 0
 unfoldable pub walk : ℕ → Float → List Float → Float
 unfolding stopped lt
-walk i s [] = ofInt binary64 (pos i)
+walk i s [] = whole i
 walk i s (x ∷ xs) = let next = s ⊕ x in cond (lt next zero⁺) (stopped i s x) (walk (suc i) next xs)
 
 unfoldable pub kaplan-yorke : List Float → Float

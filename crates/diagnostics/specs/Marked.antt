@@ -1,11 +1,13 @@
--- Document 01's marked examples of rates, computed from the definitions.
+-- Document 01's marked examples of rates, an order, and a list for each refusal, computed from the definitions.
 use mathlib.Core.Path.{_≡_, refl}
 use mathlib.Core.Bool.{true, false}
 use mathlib.Core.List.{[], _∷_}
 use lib.IntN.{pos, negsuc}
-use lib.Ieee.{fin}
-use Rattle.error.specs.Refusal.{value}
-use Rattle.floats.specs.Arithmetic.{zero⁺, one, two, minus-two, half}
+use lib.ListN.{replicate}
+use lib.Ieee.{inf, fin, neg, ofInt, toBits}
+use Rattle.error.specs.Refusal.{value, refused, refuse}
+use Rattle.floats.specs.Arithmetic.{whole, minus, zero⁺, one, two, minus-two, half}
+use Rattle.diagnostics.specs.Sorting.{descending, occurrences}
 use Rattle.diagnostics.specs.Rates.{dimension, entropy}
 
 abbrev pub Marked : Type 0
@@ -18,3 +20,15 @@ Marked =
 pub marked : Marked
 unfolding dimension entropy
 marked = (refl, refl, refl, refl)
+
+-- 2 + (3 + 0.5) / 14, and 3 + 0.5
+pub unordered : (dimension (minus 14 ∷ whole 3 ∷ half ∷ []) ≡ value (fin false 9 (negsuc 1))) × (entropy (minus 14 ∷ whole 3 ∷ half ∷ []) ≡ value (fin false 7 (negsuc 0)))
+    × (descending (fin true 0 (pos 0) ∷ minus 14 ∷ whole 3 ∷ zero⁺ ∷ half ∷ []) ≡ whole 3 ∷ half ∷ zero⁺ ∷ fin true 0 (pos 0) ∷ minus 14 ∷ [])
+    × (occurrences 0 (zero⁺ ∷ whole 3 ∷ zero⁺ ∷ fin true 0 (pos 0) ∷ []) ≡ 2)
+unfolding dimension entropy descending occurrences toBits ofInt neg
+unordered = (refl, refl, refl, refl)
+
+-- 20, 21 and 22 with the place of the infinity
+pub refusals : (dimension [] ≡ refused (refuse 20 0)) × (entropy (replicate 257 half) ≡ refused (refuse 21 0)) × (dimension (whole 3 ∷ half ∷ inf true ∷ []) ≡ refused (refuse 22 2))
+unfolding dimension entropy ofInt
+refusals = (refl, refl, refl)

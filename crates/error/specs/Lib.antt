@@ -1,3 +1,4 @@
--- What the contracts cite.
+-- What the contracts cite, and examples.
 pub mod Refusal
 pub mod Tests
+pub mod Examples

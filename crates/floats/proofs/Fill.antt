@@ -18,8 +18,8 @@ module _ {A : Type 0} where
   pub fill-read : (L o : List A) (i : ℕ) (d : A) → i ≤ length L → i < length o → getD (take i L ++ drop i o) i d ≡ getD o i d
   fill-read L o i d h g = rw (drop-cons o i d g, getD-at (take i L) (getD o i d) (drop (suc i) o) d i (length-take-le i L h))
 
-pub whole : {n : ℕ} (L o : List Float) (i : ℕ) → length L ≡ n → n ≤ i → i ≤ n → take i L ++ drop i o ≡ L ++ drop n o
-whole {n} L o i e h g = let f : i ≡ n = omega arith in rw (f, take-all n L (omega arith))
+pub fill-end : {n : ℕ} (L o : List Float) (i : ℕ) → length L ≡ n → n ≤ i → i ≤ n → take i L ++ drop i o ≡ L ++ drop n o
+fill-end {n} L o i e h g = let f : i ≡ n = omega arith in rw (f, take-all n L (omega arith))
 
 -- an iteration of the loop, where X is under way
 pub fill-step : (L o X : List Float) (i : ℕ) (v : Float) → X ≡ take i L ++ drop i o → v ≡ getD L i nan → i < length L → i < length o

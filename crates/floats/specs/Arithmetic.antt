@@ -2,7 +2,7 @@
 use Prim.Native.Nat.{ℕ}
 use mathlib.Core.Bool.{true, false}
 use lib.IntN.{pos, negsuc}
-use lib.Ieee.{Float, fin, binary64, add, sub, mul, div, ofBits}
+use lib.Ieee.{Float, fin, binary64, add, sub, mul, div, neg, ofInt, ofBits}
 
 infixl 70 _⊕_ _⊖_
 infixl 75 _⊗_ _⊘_
@@ -21,6 +21,13 @@ x ⊘ y = div binary64 x y
 -- the value of a bit pattern
 abbrev pub bits : ℕ → Float
 bits = ofBits binary64
+
+-- a whole number as a float, rounded, and its negative
+abbrev pub whole : ℕ → Float
+whole n = ofInt binary64 (pos n)
+
+abbrev pub minus : ℕ → Float
+minus n = neg (whole n)
 
 -- +0.0
 abbrev pub zero⁺ : Float

@@ -1,4 +1,4 @@
--- Document 01's marked examples of the orthonormaliser, of the definition that its contract cites: directions of 2 entries, in a second slice of zeros.
+-- Document 01's marked examples of the orthonormaliser, of the definition that its contract cites: directions of 2 entries, in a second slice of zeros; and two directions of 3 entries.
 use mathlib.Core.Path.{_≡_, refl}
 use mathlib.Core.Bool.{false}
 use mathlib.Core.List.{List, [], _∷_}
@@ -6,7 +6,7 @@ use mathlib.Core.Option.{none, some}
 use lib.IntN.{pos}
 use lib.Ieee.{Float, fin, toBits, add, sub, mul, div, round, le, lt, eq, ofInt, ofBits}
 use Rattle.error.specs.Refusal.{refuse}
-use Rattle.floats.specs.Arithmetic.{zero⁺, one, two}
+use Rattle.floats.specs.Arithmetic.{bits, whole, zero⁺, one, two}
 use Rattle.sqrt.specs.SquareRoot.{root}
 use Rattle.ln.specs.Logarithm.{log}
 use Rattle.gram_schmidt.specs.GramSchmidt.{Orthonormalised, orthonormalised}
@@ -33,3 +33,13 @@ Marked =
 pub marked : Marked
 unfolding orthonormalised root log toBits add sub mul div round le lt eq ofInt ofBits
 marked = (refl, refl, refl, refl, refl)
+
+-- (2,3,6),(1,9,4) and an entry left over, with more room than is needed
+pub two-of-three : orthonormalised (whole 2 ∷ whole 3 ∷ whole 6 ∷ whole 1 ∷ whole 9 ∷ whole 4 ∷ whole 5 ∷ []) 3 (whole 11 ∷ whole 13 ∷ whole 17 ∷ whole 19 ∷ whole 23 ∷ whole 29 ∷ [])
+    ≡ record {
+      refusal = none;
+      tangents = bits 0x3fd2_4924_9249_2492 ∷ bits 0x3fdb_6db6_db6d_b6db ∷ bits 0x3feb_6db6_db6d_b6db ∷ bits 0xbfc7_58dc_3945_9ef7 ∷ bits 0x3fec_e06e_b2a0_3725 ∷ bits 0xbfd8_fc49_fe69_f1fb ∷ whole 5 ∷ [];
+      norms = bits 0x3fff_2272_ae32_5a57 ∷ bits 0x3ffd_a505_0a9e_2a29 ∷ whole 49 ∷ bits 0x4044_5634_3eb1_a1f7 ∷ whole 23 ∷ whole 29 ∷ [];
+    }
+unfolding orthonormalised root log toBits add sub mul div round le lt eq ofInt ofBits
+two-of-three = refl

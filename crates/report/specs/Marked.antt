@@ -1,8 +1,13 @@
--- Document 01's example of the program, and a text of each refusal, computed from the definitions.
+-- Document 01's example of the program, a text of each refusal, and numbers from bytes and in digits, computed from the definitions.
 use mathlib.Core.Path.{_≡_, refl}
+use mathlib.Core.Bool.{false}
 use mathlib.Core.List.{List, [], _∷_}
 use Prim.Native.Nat.{ℕ}
 use lib.ListN.{replicate}
+use lib.IntN.{negsuc}
+use lib.Ieee.{fin}
+use Rattle.report.specs.Bytes.{little-endian, decoded}
+use Rattle.report.specs.Digits.{digits, decimal}
 use Rattle.report.specs.Report.{output}
 
 -- `refused 2D 0` and the line's end, for the code d of the digit D
@@ -18,3 +23,9 @@ pub marked : (output (0 ∷ 0 ∷ 0 ∷ 0 ∷ 0 ∷ 0 ∷ 0xf0 ∷ 0x3f ∷ 0 �
     × (output (0 ∷ []) ≡ refused-twenty 51)
 unfolding output
 marked = (refl, refl, refl, refl, refl)
+
+-- 3 + 256 * 1 + 65536 * 2; 4095 and f2a7 in digits; the float 2.5, then one more byte
+pub numerals : (little-endian (3 ∷ 1 ∷ 2 ∷ []) ≡ 131331) × (decimal 4095 ≡ 52 ∷ 48 ∷ 57 ∷ 53 ∷ []) × (digits 16 4 0xf2a7 ≡ 102 ∷ 50 ∷ 97 ∷ 55 ∷ [])
+    × (decoded 1 (0 ∷ 0 ∷ 0 ∷ 0 ∷ 0 ∷ 0 ∷ 4 ∷ 0x40 ∷ 9 ∷ []) ≡ fin false 5 (negsuc 0) ∷ [])
+unfolding little-endian decimal digits decoded
+numerals = (refl, refl, refl, refl)

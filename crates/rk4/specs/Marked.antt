@@ -1,10 +1,12 @@
--- Document 01's marked step, and a Lorenz step with one direction, by computation.
+-- Document 01's marked step, a Lorenz step with two directions, and two refusals, by computation.
 use mathlib.Core.Path.{_≡_, refl}
+use mathlib.Core.Bool.{false}
 use mathlib.Core.List.{[], _∷_}
-use mathlib.Core.Option.{none}
-use lib.Ieee.{ofBits, add, sub, mul, div, lt}
+use mathlib.Core.Option.{none, some}
+use lib.Ieee.{inf, ofBits, ofInt, add, sub, mul, div, neg, lt}
+use Rattle.error.specs.Refusal.{refuse}
 use Rattle.error.specs.Tests.{first-failing}
-use Rattle.floats.specs.Arithmetic.{bits, zero⁺, one, six}
+use Rattle.floats.specs.Arithmetic.{bits, whole, minus, zero⁺, one, six}
 use Rattle.floats.specs.Finite.{first-not-finite}
 use Rattle.floats.specs.Vector.{zip, updated, dot-from, chunks, concat}
 use Rattle.system.specs.System.{field, tangent, times}
@@ -21,12 +23,18 @@ pub marked : Marked
 unfolding stepped advanced advance first-failing first-not-finite field times chunks concat dot-from advance-by stage-points derivatives rk4 from-last rk4-update updated zip add mul div lt ofBits
 marked = refl
 
--- σ 10, ρ 28, β 8/3, h 0.01, state 1, 1, 1 and direction 1, 0, 0
-pub lorenz : stepped (Lorenz (bits 0x4024_0000_0000_0000) (bits 0x403c_0000_0000_0000) (bits 0x4005_5555_5555_5555)) [] zero⁺ (one ∷ one ∷ one ∷ []) (one ∷ zero⁺ ∷ zero⁺ ∷ []) 1 (bits 0x3f84_7ae1_47ae_147b)
+-- σ 10, ρ 28, β 8/3, h 0.01, state 1, 3, 6 and the directions 2, 7, 11 and 5, -4, 13
+pub lorenz : stepped (Lorenz (whole 10) (whole 28) (bits 0x4005_5555_5555_5555)) [] zero⁺ (whole 1 ∷ whole 3 ∷ whole 6 ∷ []) (whole 2 ∷ whole 7 ∷ whole 11 ∷ whole 5 ∷ minus 4 ∷ whole 13 ∷ []) 2 (bits 0x3f84_7ae1_47ae_147b)
     ≡ record {
       refusal = none;
-      state = bits 0x3ff0_3379_a7aa_9eb1 ∷ bits 0x3ff4_289f_90e1_e461 ∷ bits 0x3fef_843a_123f_0f2f ∷ [];
-      tangents = bits 0x3fed_5bd4_59b9_33f4 ∷ bits 0x3fd0_6f71_746b_f2ca ∷ bits 0x3f88_7667_9916_dd73 ∷ [];
+      state = bits 0x3ff3_341a_40e7_2c7a ∷ bits 0x4009_b18d_e89d_ad1a ∷ bits 0x4017_80dc_c83c_c0ff ∷ [];
+      tangents = bits 0x4003_eb29_fc75_2f19 ∷ bits 0x401d_3763_943e_242c ∷ bits 0x4025_b6d3_ee6f_5017 ∷ bits 0x4010_c172_beb8_77f7 ∷ bits 0xc008_c46e_8322_164e ∷ bits 0x4029_8501_8798_84fe ∷ [];
     }
-unfolding stepped advanced advance first-failing first-not-finite field tangent chunks concat advance-by stage-points derivatives rk4 from-last rk4-update updated zip add sub mul div lt ofBits
+unfolding stepped advanced advance first-failing first-not-finite field tangent chunks concat advance-by stage-points derivatives rk4 from-last rk4-update updated zip add sub mul div lt neg ofInt ofBits
 lorenz = refl
+
+-- 10 and 2 fail at the same time, and nothing changes; the second direction overflows, and both slices hold the new values
+pub refusals : (stepped (Linear 2) (whole 2 ∷ whole 3 ∷ whole 5 ∷ whole 7 ∷ []) zero⁺ (whole 11 ∷ []) (whole 13 ∷ whole 17 ∷ []) 1 (minus 19) ≡ record { refusal = some (refuse 10 0); state = whole 11 ∷ []; tangents = whole 13 ∷ whole 17 ∷ [] })
+    × (stepped (Linear 1) (bits 0x7fe1_ccf3_85eb_c8a0 ∷ []) one (zero⁺ ∷ []) (zero⁺ ∷ whole 3 ∷ []) 2 six ≡ record { refusal = some (refuse 17 1); state = zero⁺ ∷ []; tangents = zero⁺ ∷ inf false ∷ [] })
+unfolding stepped advanced advance first-failing first-not-finite field tangent times chunks concat dot-from advance-by stage-points derivatives rk4 from-last rk4-update updated zip add mul div lt neg ofInt ofBits
+refusals = (refl, refl)

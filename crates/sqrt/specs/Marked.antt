@@ -1,9 +1,9 @@
--- Document 01's marked examples of the root, as one table.
+-- Document 01's marked examples of the root, as one table, and a whole root.
 use mathlib.Core.Path.{_≡_, refl}
 use mathlib.Core.Bool.{false}
 use lib.IntN.{pos, negsuc}
 use lib.Ieee.{fin, binary64, toBits}
-use Rattle.sqrt.specs.SquareRoot.{root}
+use Rattle.sqrt.specs.SquareRoot.{root, whole-root}
 
 abbrev pub Marked : Type 0
 Marked =
@@ -14,3 +14,8 @@ Marked =
 pub marked : Marked
 unfolding root toBits
 marked = (refl, refl, refl)
+
+-- 31 * 31 is 961, and 32 * 32 is 1024
+pub whole-thousand : whole-root 1000 ≡ 31
+unfolding whole-root
+whole-thousand = refl

@@ -1,3 +1,4 @@
--- What the contracts cite: the systems, and vectors in the code's arrays.
+-- What the contracts cite: the systems, and vectors in the code's arrays; and examples.
 pub mod System
 pub mod Array
+pub mod Examples

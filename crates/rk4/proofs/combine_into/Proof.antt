@@ -5,7 +5,7 @@ use mathlib.Core.Path.{_≡_, _∙_}
 use mathlib.Core.List.{_++_}
 use borrow.Author.Needs.{needs}
 use lib.ListN.{length, take, drop, length-set}
-use Rattle.floats.proofs.Fill.{fill-step, whole}
+use Rattle.floats.proofs.Fill.{fill-step, fill-end}
 use Rattle.rk4.specs.Stepper.{combine-stage}
 use Rattle.rk4.proofs.Stage.{front-length, front-at}
 use Rattle.rk4.proofs.combine_into.Statement.{statement}
@@ -63,7 +63,7 @@ returns c =
     let b = ar .base .now in
     let k = ar .derivative .now in
     let n = front-length (ar .scale) b k (ar .d) (omega arith) in
-    (l .inv .1, l .inv .2 ∙ whole (combine-stage (ar .scale) (take (ar .d) b) (take (ar .d) k)) (ar .out .now) (l .i) n (omega arith) (omega arith))
+    (l .inv .1, l .inv .2 ∙ fill-end (combine-stage (ar .scale) (take (ar .d) b) (take (ar .d) k)) (ar .out .now) (l .i) n (omega arith) (omega arith))
 
 pub combine-into-spec : {M : Type 1} → statement M
 combine-into-spec =

@@ -7,7 +7,7 @@ use borrow.Author.Needs.{needs}
 use lib.ListN.{length, take, drop, length-set}
 use lib.Seq.{drop-length}
 use lib.Ieee.{ofBits}
-use Rattle.floats.proofs.Fill.{fill-step, whole}
+use Rattle.floats.proofs.Fill.{fill-step, fill-end}
 use Rattle.rk4.specs.Stepper.{rk4-update}
 use Rattle.rk4.proofs.Stage.{update-length, update-entry}
 use Rattle.rk4.proofs.rk4_update.Statement.{statement}
@@ -91,7 +91,7 @@ returns c =
     let v = ar .values .now in
     let L = rk4-update (ar .h) (ar .t5 ∷ ar .t4 ∷ ar .t3 ∷ ar .t2 ∷ []) v in
     let n : length L ≡ length v = update-length (ar .h) (ar .t2) (ar .t3) (ar .t4) (ar .t5) v in
-    l .inv .2 ∙ whole L v (l .i) n (omega arith) (omega arith) ∙ ap (λ o. L ++ o) (drop-length v) ∙ append-nil L
+    l .inv .2 ∙ fill-end L v (l .i) n (omega arith) (omega arith) ∙ ap (λ o. L ++ o) (drop-length v) ∙ append-nil L
 
 pub rk4-update-spec : {M : Type 1} → statement M
 rk4-update-spec =
