@@ -25,7 +25,7 @@ use Rattle.system.specs.System.{dim}
 use Rattle.rk4.proofs.Lengths.{direction-length}
 use Rattle.gram_schmidt.specs.Orthonormalise.{Basis, orthonormalise}
 use Rattle.benettin.specs.Run.{Dynamics, Problem, RunState, Status, ok, refused, refused-at, tested, stepped, step, steps, unless-collapsed, reorthonormalise, count-faint, Row, Course}
-use Rattle.benettin.specs.Run.{accumulate, row, initial, check-duration, course-of, RunAnswer, ended, stopped, answer, OutputLengths, no-faint, run-past, run, output-tests, run-tests}
+use Rattle.benettin.specs.Run.{accumulate, row, initial, check-duration, course-of, RunAnswer, ended, stopped, answer, OutputLengths, run-past, run, output-tests, run-tests}
 use Rattle.benettin.specs.LeadingSpectrum.{leading-row, leading, AtOrAbove, RefusedFrom, number, LeadingSpectrum}
 use Rattle.benettin.specs.Estimate.{Input, early-tests, problem, dynamics, estimate}
 use Rattle.benettin.proofs.Prefix.{cut-at, cut-none, cut-some, take-replicate, drawn-directions-take, drawn-directions-sized, drawn-directions-length}

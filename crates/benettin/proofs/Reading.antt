@@ -6,7 +6,7 @@ use mathlib.Core.Path.{_≡_, refl, sym, ap, ap₂, _∙_, subst}
 use mathlib.Core.List.{List, [], _∷_, _++_, append-assoc}
 use mathlib.Core.Bool.{Bool, true, false, cond}
 use mathlib.Core.Option.{Option, none, some}
-use lib.ListN.{length, take, drop, getD, replicate, length-append, length-map}
+use lib.ListN.{length, take, drop, replicate, length-append, length-map}
 use lib.Seq.{sets, take-at, drop-at, drop-drop, getD-at}
 use lib.Ieee.{Float, nan}
 use Rattle.error.specs.Tests.{Test, first-failing}
@@ -14,7 +14,7 @@ use Rattle.error.specs.declared.Refusal.{Refusal}
 use Rattle.system.specs.System.{dim}
 use Rattle.rk4.proofs.Lengths.{state-length}
 use Rattle.gram_schmidt.proofs.Finished.{sets-start}
-use Rattle.benettin.specs.Run.{Dynamics, Row, Course, RunState, Status, ok, refused, Spectrum, RunRefusal, RunAnswer, ended, stopped, answer, no-faint, OutputLengths, run-tests, course-of, run-past, run}
+use Rattle.benettin.specs.Run.{Dynamics, Row, Course, Status, ok, refused, Spectrum, RunRefusal, RunAnswer, ended, stopped, answer, no-faint, OutputLengths, run-tests, course-of, run-past, run}
 use Rattle.benettin.specs.Estimate.{Input, problem, dynamics, estimate}
 use Rattle.benettin.specs.Outputs.{Call, Meets, lent, lengths-of, estimated, outputs, sixteen, flat-row, flat-rows}
 use Rattle.benettin.specs.Refusals.{Wide}

@@ -1,18 +1,15 @@
 -- Demand 1: what a refused run has written.
 use Prim.Native.Nat.{ℕ, _+_, _*_, _≤_}
 use native.Mathlib.Omega.{arith}
-use mathlib.Core.Path.{_≡_, refl, ap, _∙_, subst}
-use mathlib.Core.List.{List}
+use mathlib.Core.Path.{_≡_, ap, _∙_, subst}
 use mathlib.Core.Option.{Option, some}
 use lib.ListN.{length, take, drop}
 use lib.Seq.{take-at}
-use lib.Ieee.{Float}
-use Rattle.error.specs.Tests.{first-failing}
 use Rattle.error.specs.declared.Refusal.{Refusal}
 use Rattle.floats.proofs.Sets.{drop-behind}
 use Rattle.gram_schmidt.proofs.Finished.{sets-start}
 use Rattle.system.specs.System.{dim}
-use Rattle.benettin.specs.Run.{RunAnswer, stopped, run-past, run}
+use Rattle.benettin.specs.Run.{stopped, run-past, run}
 use Rattle.benettin.specs.Estimate.{problem, estimate}
 use Rattle.benettin.specs.Outputs.{Estimated, estimated, outputs, lent, flat-rows}
 use Rattle.benettin.specs.Refusals.{EarlyRefusal, LateRefusal}

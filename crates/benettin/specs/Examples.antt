@@ -8,7 +8,7 @@ use lib.IntN.{pos, negsuc}
 use lib.Ieee.{Float, fin, binary64, ofBits, toBits, add, sub, mul, div, neg, round, ofInt, le, lt, eq}
 use Rattle.error.specs.Refusal.{value, refused, refuse, refusal-in}
 use Rattle.error.specs.Tests.{first-failing}
-use Rattle.floats.specs.Arithmetic.{bits, half}
+use Rattle.floats.specs.Arithmetic.{bits, half, whole}
 use Rattle.floats.specs.Vector.{dot-from, zip}
 use Rattle.sqrt.specs.SquareRoot.{root}
 use Rattle.ln.specs.Logarithm.{log}
@@ -19,9 +19,6 @@ use Rattle.gram_schmidt.specs.GramSchmidt.{euclidean}
 use Rattle.benettin.specs.Estimate.{Input, estimate, default-seed, configured, with-warm-up, with-seed}
 use Rattle.benettin.specs.declared.BenettinConfig.{BenettinConfig}
 use Rattle.benettin.specs.LeadingSpectrum.{leading}
-
-abbrev whole : ℕ → Float
-whole n = ofInt binary64 (pos n)
 
 abbrev row-bits : Row → List ℕ
 row-bits r = toBits binary64 (r .end-time) ∷ map (toBits binary64) (r .locals) ++ map (toBits binary64) (r .runnings)

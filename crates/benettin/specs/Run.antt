@@ -4,13 +4,12 @@ use mathlib.Core.Bool.{Bool, true, false, cond}
 use mathlib.Core.List.{List, [], _∷_, _++_, map}
 use mathlib.Core.Option.{Option, none, some}
 use lib.Dec.{leb, ltb}
-use lib.IntN.{pos}
 use lib.ListN.{take, replicate}
-use lib.Ieee.{Float, binary64, ofInt}
+use lib.Ieee.{Float}
 use lib.Ieee.Scale.{finite}
 use Rattle.error.specs.Tests.{Test, test, first-failing}
 use Rattle.error.specs.declared.Refusal.{Refusal}
-use Rattle.floats.specs.Arithmetic.{_⊕_, _⊗_, _⊘_, zero⁺}
+use Rattle.floats.specs.Arithmetic.{_⊕_, _⊗_, _⊘_, zero⁺, whole}
 use Rattle.floats.specs.Finite.{first-not-finite}
 use Rattle.floats.specs.Vector.{concat, zip}
 use Rattle.gram_schmidt.specs.Orthonormalise.{Lengths, Basis, orthonormalise}
@@ -158,7 +157,7 @@ pub record Row : Type 0 where
 
 -- a count as a float
 unfoldable pub as-float : ℕ → Float
-as-float n = ofInt binary64 (pos n)
+as-float n = whole n
 
 -- each sum takes the logarithm, and one more window is finished
 unfoldable pub accumulate : RunState → RunState
