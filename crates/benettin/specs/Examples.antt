@@ -5,7 +5,7 @@ use mathlib.Core.Bool.{false}
 use mathlib.Core.List.{List, [], _∷_, _++_, map}
 use mathlib.Core.Option.{none}
 use lib.IntN.{pos, negsuc}
-use lib.Ieee.{Float, fin, binary64, ofBits, toBits, add, sub, mul, div, neg, round, ofInt, le, lt, eq}
+use lib.Ieee.{fin, binary64, ofBits, toBits, add, sub, mul, div, neg, round, ofInt, le, lt, eq}
 use Rattle.error.specs.Refusal.{value, refused, refuse, refusal-in}
 use Rattle.error.specs.Tests.{first-failing}
 use Rattle.floats.specs.Arithmetic.{bits, half, whole}
