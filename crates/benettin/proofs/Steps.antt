@@ -85,10 +85,10 @@ module _ (S : System) (m : List Float) (k : ℕ) (h : Float) (n₀ : ℕ) (time 
   abbrev s : Stepped
   s = stepped S m time x t k h
 
-  abbrev moved : List (List Float)
-  moved = map (advance S m h x .1) (chunks (dim S) k t)
+  abbrev directions-after : List (List Float)
+  directions-after = map (advance S m h x .1) (chunks (dim S) k t)
 
-  answered : not-finite (first-not-finite (advance S m h x .0)) (first-not-finite (concat moved)) ≡ s .refusal
+  answered : not-finite (first-not-finite (advance S m h x .0)) (first-not-finite (concat directions-after)) ≡ s .refusal
   unfolding advanced
   answered = sym (ap (λ (y : Stepped). y .refusal) (stepped-passed S m time x t k h P))
 
@@ -98,21 +98,21 @@ module _ (S : System) (m : List Float) (k : ℕ) (h : Float) (n₀ : ℕ) (time 
 
     step-refused : (ρ : Refusal) → s .refusal ≡ some ρ → step (dynamics S m h n₀) here ≡ refused (refused-at (ρ .number) (ρ .place) here)
     unfolding step dynamics
-    step-refused ρ f = tested-refused (first-not-finite (advance S m h x .0)) (first-not-finite (concat moved)) _ _ _ ρ (answered ∙ f)
+    step-refused ρ f = tested-refused (first-not-finite (advance S m h x .0)) (first-not-finite (concat directions-after)) _ _ _ ρ (answered ∙ f)
 
     step-late : s .refusal ≡ none → finite (time ⊕ h) ≡ false → step (dynamics S m h n₀) here ≡ refused (refused-at 18 0 here)
     unfolding step dynamics tested
-    step-late f b = tested-time (first-not-finite (advance S m h x .0)) (first-not-finite (concat moved)) _ _ _ (answered ∙ f) ∙ rw b
+    step-late f b = tested-time (first-not-finite (advance S m h x .0)) (first-not-finite (concat directions-after)) _ _ _ (answered ∙ f) ∙ rw b
 
     step-on : s .refusal ≡ none → finite (time ⊕ h) ≡ true → step (dynamics S m h n₀) here ≡ ok (with-steps (dim S) k c (s .state) (s .tangents) (time ⊕ h) (made + 1))
     unfolding step dynamics tested advanced
     step-on f b =
         let e : s ≡ advanced S m x t k h = stepped-passed S m time x t k h P in
-        let d : Sized (dim S) moved = map-sized (dim S) (advance S m h x .1) (λ v l. direction-length S m h x v ∙ l) (chunks (dim S) k t) (chunks-sized (dim S) k t (omega (arith, P .tangents))) in
-        let w : length moved ≡ k = length-map (chunks (dim S) k t) (advance S m h x .1) ∙ chunks-length (dim S) k t in
+        let d : Sized (dim S) directions-after = map-sized (dim S) (advance S m h x .1) (λ v l. direction-length S m h x v ∙ l) (chunks (dim S) k t) (chunks-sized (dim S) k t (omega (arith, P .tangents))) in
+        let w : length directions-after ≡ k = length-map (chunks (dim S) k t) (advance S m h x .1) ∙ chunks-length (dim S) k t in
         let y : s .state ≡ advance S m h x .0 = ap (λ (y : Stepped). y .state) e in
-        let z : chunks (dim S) k (s .tangents) ≡ moved = ap (λ (y : Stepped). chunks (dim S) k (y .tangents)) e ∙ chunks-back (dim S) k moved d w in
-        tested-time (first-not-finite (advance S m h x .0)) (first-not-finite (concat moved)) _ _ _ (answered ∙ f) ∙ rw (b, y, z, add-one)
+        let z : chunks (dim S) k (s .tangents) ≡ directions-after = ap (λ (y : Stepped). chunks (dim S) k (y .tangents)) e ∙ chunks-back (dim S) k directions-after d w in
+        tested-time (first-not-finite (advance S m h x .0)) (first-not-finite (concat directions-after)) _ _ _ (answered ∙ f) ∙ rw (b, y, z, add-one)
 
   passed-on : finite (time ⊕ h) ≡ true → Passed S m (time ⊕ h) (s .state) (s .tangents) k h
   passed-on b =

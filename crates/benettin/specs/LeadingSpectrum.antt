@@ -8,7 +8,7 @@ use Rattle.system.specs.System.{dim}
 use Rattle.benettin.specs.Run.{Row, Spectrum, RunRefusal, RunAnswer, ended, stopped, OutputLengths}
 use Rattle.benettin.specs.Estimate.{Input, estimate}
 
--- ---- directions k and above struck out: exponents, faint counts, locals and runnings; all else stays
+-- ---- `struck out` is document 01's term: without the exponents, faint counts, locals and runnings of directions k and above; all else stays
 
 abbrev pub leading-row : ℕ → Row → Row
 leading-row k r = record { end-time = r .end-time; locals = take k (r .locals); runnings = take k (r .runnings) }

@@ -28,10 +28,10 @@ unfolding inFloat
 in-float n h = le→leb n (2 ^ 53) (omega arith)
 
 -- the index is the loop's; where it is below the length, the next sum is below 0
-left : (c : tie.Joined1 Inv-loop μ-loop)
+walked-to : (c : tie.Joined1 Inv-loop μ-loop)
     → (c .if1 .index ≡ c .before .loop .i)
     × (c .if1 .index < length (now (c .before .before .before .args .sorted)) → lt (c .before .loop .cumulative ⊕ getD (now (c .before .before .before .args .sorted)) (c .before .loop .i) nan) zero⁺ ≡ true)
-left c =
+walked-to c =
     let sorted = now (c .before .before .before .args .sorted) in
     ⊎-elim (λ w. (w .1, λ h. absurd (no (c .if1 .index) (c .before .loop .i) (length sorted) (w .1) h (w .0 .taken))))
     (λ w. (w .3, λ h. ap (lt (c .before .loop .cumulative ⊕ getD sorted (c .before .loop .i) nan)) (sym zero-is) ∙ w .2 .taken))
@@ -41,14 +41,14 @@ left c =
     no a b n e h l = omega arith
 
 index-small : (c : tie.Joined1 Inv-loop μ-loop) → c .if1 .index ≤ 256
-index-small c = omega (arith, left c .0, c .before .loop .inv .0, c .before .before .before .pre)
+index-small c = omega (arith, walked-to c .0, c .before .loop .inv .0, c .before .before .before .pre)
 
 stops : (c : tie.Else3 Inv-loop μ-loop)
     → walk 0 zero⁺ (now (c .before .before .before .before .args .sorted)) ≡ stopped (c .before .if1 .index) (c .before .before .loop .cumulative) (getD (now (c .before .before .before .before .args .sorted)) (c .before .if1 .index) nan)
 stops c =
     let at = c .before .before in
     let sorted = now (at .before .before .args .sorted) in
-    let e = left (c .before) in
+    let e = walked-to (c .before) in
     at .loop .inv .1
     ∙ walk-stop sorted (at .loop .i) (at .loop .cumulative) (omega (arith, e .0, c .if3 .left)) (e .1 (c .if3 .left))
     ∙ ap (λ (n : ℕ). stopped n (at .loop .cumulative) (getD sorted n nan)) (sym (e .0))
@@ -80,7 +80,7 @@ int-to-float-result c = in-float (c .before .before .if1 .index) (index-small (c
 returns : tie.Need-returns Inv-loop μ-loop
 returns c =
     let at = c .before .before .before in
-    let e = left (c .before .before) .0 in
+    let e = walked-to (c .before .before) .0 in
     ap (λ (n : ℕ). ofInt binary64 (pos n)) e
     ∙ sym (at .loop .inv .1 ∙ walk-end (now (at .before .before .args .sorted)) (at .loop .i) (at .loop .cumulative) (omega (arith, e, c .before .if3 .taken)))
 

@@ -26,13 +26,13 @@ slopes c =
     let k₂ = k₃ .before .before .before .before .before in
     k₄ .vector-field4 .result ∷ k₃ .vector-field3 .result ∷ k₂ .vector-field2 .result ∷ k₂ .before .before .before .before .before .vector-field .result ∷ []
 
--- either branch: what is left where w entries of the state are updated to ys
-left-by : (c : tie.After-advance-tangents) (m ys : List Float) (w : ℕ) → length (start c .args .state .now) ≤ w
+-- either branch: what the slices hold where w entries of the state are updated to ys
+stepped-to : (c : tie.After-advance-tangents) (m ys : List Float) (w : ℕ) → length (start c .args .state .now) ≤ w
     → ys ≡ rk4-update (start c .args .h) (slopes c) (take w (start c .args .state .now))
     → tested-finite (ys ++ drop w (start c .args .state .now)) (c .advance-tangents .last .1 .1 .1 .1 .1 .0)
     ≡ advanced (start c .args .system) m (start c .args .state .now) (start c .args .tangents .now) (start c .args .count) (start c .args .h)
 unfolding ofBits
-left-by c m ys w all u =
+stepped-to c m ys w all u =
     let k₄ = c .before .before .before .before .before .before in
     let x₄ = k₄ .before .before in
     let k₃ = x₄ .before .before .before in
@@ -105,7 +105,7 @@ same-length-2 : tie.Need-same-length-2
 same-length-2 c = search needs
 
 returns : tie.Need-returns
-returns c m = let v = c .before .before .before .before .before .before .before in left-by v m _ 3 (start v .pre .3) (c .before .before .rk4-update .ensures)
+returns c m = let v = c .before .before .before .before .before .before .before in stepped-to v m _ 3 (start v .pre .3) (c .before .before .rk4-update .ensures)
 
 same-length-3 : tie.Need-same-length-3
 same-length-3 c = search needs
@@ -114,7 +114,7 @@ same-length-4 : tie.Need-same-length-4
 same-length-4 c = search needs
 
 returns-2 : tie.Need-returns-2
-returns-2 c m = let v = c .before .before .before .before .before .before .before in left-by v m _ 2 (omega (arith, start v .pre .2, start v .pre .3, c .before .before .before .before .if1 .left)) (c .before .before .rk4-update2 .ensures)
+returns-2 c m = let v = c .before .before .before .before .before .before .before in stepped-to v m _ 2 (omega (arith, start v .pre .2, start v .pre .3, c .before .before .before .before .if1 .left)) (c .before .before .rk4-update2 .ensures)
 
 pub advance-small-spec : {M : Type 1} → statement M
 advance-small-spec =

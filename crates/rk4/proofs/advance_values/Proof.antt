@@ -47,11 +47,11 @@ fitting c =
 abbrev taken : tie.After-known-told → List Float → List Float
 taken c = alike (start c .args .h) (times (chunks (dimension c) (dimension c) (start c .args .matrix .now)))
 
--- what is left, at either width
-left-by : (c : tie.After-known-told) (y vs : List Float) → y ≡ taken c (start c .args .state .now)
+-- what the slices hold, at either width
+stepped-to : (c : tie.After-known-told) (y vs : List Float) → y ≡ taken c (start c .args .state .now)
     → vs ≡ concat (map (taken c) (chunks (dimension c) (start c .args .count) (start c .args .tangents .now)))
     → tested-finite y vs ≡ advanced (start c .args .system) (start c .args .matrix .now) (start c .args .state .now) (start c .args .tangents .now) (start c .args .count) (start c .args .h)
-left-by c = let ar = start c .args in linear-leaves (ar .system) (dimension c) (c .before .system .given .1) (ar .matrix .now) (ar .state .now) (ar .tangents .now) (ar .count) (ar .h)
+stepped-to c = let ar = start c .args in linear-leaves (ar .system) (dimension c) (c .before .system .given .1) (ar .matrix .now) (ar .state .now) (ar .tangents .now) (ar .count) (ar .h)
 
 enum-known-system : tie.Need-enum-known-system
 enum-known-system c = search needs
@@ -81,7 +81,7 @@ same-length-2 : tie.Need-same-length-2
 same-length-2 c = search needs
 
 returns : tie.Need-returns
-returns c = let v = c .before .before .before .before .before in left-by (v .before .before .before .before .before) _ _ (v .advance-columns .ensures .0) (v .advance-columns .ensures .1)
+returns c = let v = c .before .before .before .before .before in stepped-to (v .before .before .before .before .before) _ _ (v .advance-columns .ensures .0) (v .advance-columns .ensures .1)
 
 same-length-3 : tie.Need-same-length-3
 same-length-3 c = search needs
@@ -90,7 +90,7 @@ same-length-4 : tie.Need-same-length-4
 same-length-4 c = search needs
 
 returns-2 : tie.Need-returns-2
-returns-2 c = let v = c .before .before .before .before .before in left-by (v .before .before .before .before .before) _ _ (v .advance-columns2 .ensures .0) (v .advance-columns2 .ensures .1)
+returns-2 c = let v = c .before .before .before .before .before in stepped-to (v .before .before .before .before .before) _ _ (v .advance-columns2 .ensures .0) (v .advance-columns2 .ensures .1)
 
 same-length-5 : tie.Need-same-length-5
 same-length-5 c = search needs
