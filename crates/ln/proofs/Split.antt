@@ -1,4 +1,4 @@
--- `part` and `power` are the m and the k of the steps: z = m * 2 ^ k, with m's high word in its range.
+-- `significand` and `power` are the m and the k of the steps: z = m * 2 ^ k, with m's high word in its range.
 use mathlib.Core.Path.{_≡_, refl, sym, ap, _∙_, subst}
 use mathlib.Core.Bool.{Bool, true, false, not, cond}
 use Prim.Native.Nat.{ℕ, zero, suc, _+_, _-_, _*_, _/_, _%_, _^_, _≤_, _<_}
