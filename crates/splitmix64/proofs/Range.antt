@@ -13,7 +13,7 @@ use lib.Ieee.{Float, nan, inf, fin, up, down, eq, lt, le}
 use lib.Ieee.Exact.{HasValue}
 use lib.Ieee.Fits.{down-pos}
 use Rattle.splitmix64.specs.Mix.{unit}
-use Rattle.splitmix64.specs.ExactDraw.{Exactly, DrawRange, minus-one, one}
+use Rattle.splitmix64.specs.ExactDraw.{Exactly, InRange, DrawRange}
 use Rattle.splitmix64.proofs.Exact.{unit-exact}
 
 abbrev C : ℕ
@@ -34,7 +34,7 @@ at-most a b h = go (eq-or-lt-of-le h)
 above : (a b : ℕ) (q : Bool) → 0 < a → T (ltb 0 (a + b) || q) × T (ltb 0 (b + a))
 above a b q h = (rw (lt-ltb 0 (a + b) (omega arith)) tt, lt→ltb 0 (b + a) (omega arith))
 
-below-zero : (x : Float) (a : ℕ) → a ≤ C → HasValue x true a C → T (le minus-one x) × T (lt x one)
+below-zero : (x : Float) (a : ℕ) → a ≤ C → HasValue x true a C → InRange x
 unfolding le lt eq
 below-zero nan a l h = absurd h
 below-zero (inf s) a l h = absurd h
@@ -43,7 +43,7 @@ below-zero (fin true m e) a l h =
     let k : m * up e ≤ down e = le-of-mul-le-mul-right (le-trans (le-of-eq (h .1)) (le-trans (mul-le-mul-right (down e) l) (le-of-eq (mul-comm C (down e))))) (pow-pos 52) in
     (at-most (1 * 1 * down e) (m * up e * 1) (omega arith), above (1 * 1 * down e) (m * up e * 1) false (omega (arith, down-pos e)) .1)
 
-from-zero : (x : Float) (a : ℕ) → a < C → HasValue x false a C → T (le minus-one x) × T (lt x one)
+from-zero : (x : Float) (a : ℕ) → a < C → HasValue x false a C → InRange x
 unfolding le lt eq
 from-zero nan a l h = absurd h
 from-zero (inf s) a l h = absurd h
@@ -56,6 +56,6 @@ pub draw-range : DrawRange
 draw-range v h = go (ltb (v / 2 ^ 11) C) (ltb→lt (v / 2 ^ 11) C) (nltb→le (v / 2 ^ 11) C) (unit-exact v h)
   where
     go : (t : Bool) → (T t → v / 2 ^ 11 < C) → (T (not t) → C ≤ v / 2 ^ 11) → Exactly (unit v) (cond t (negsuc (C - suc (v / 2 ^ 11))) (pos (v / 2 ^ 11 - C))) C
-        → T (le minus-one (unit v)) × T (lt (unit v) one)
+        → InRange (unit v)
     go true a b e = below-zero (unit v) (suc (C - suc (v / 2 ^ 11))) (let k = a tt in omega arith) e
     go false a b e = from-zero (unit v) (v / 2 ^ 11 - C) (let k = b tt in omega arith) e

@@ -22,5 +22,9 @@ minus-one = fin true 1 (pos 0)
 abbrev pub one : Float
 one = fin false 1 (pos 0)
 
+-- at least -1 and below 1
+abbrev pub InRange : Float → Type 0
+InRange x = T (le minus-one x) × T (lt x one)
+
 abbrev pub DrawRange : Type 0
-DrawRange = (v : ℕ) → v < 2 ^ 64 → T (le minus-one (unit v)) × T (lt (unit v) one)
+DrawRange = (v : ℕ) → v < 2 ^ 64 → InRange (unit v)
