@@ -22,7 +22,7 @@ abbrev pub Wide : ℕ → List Row → Type 0
 Wide K [] = Unit {0}
 Wide K (r ∷ rs) = (length (r .locals) ≡ K) × (length (r .runnings) ≡ K) × Wide K rs
 
--- One refused later has written the rows of its finished measured windows and nothing else: n floats from the start of the rows slice.
+-- One refused later has written the rows of its finished measured windows and nothing else: finished * (1 + 2 * K) floats from the start of the rows slice.
 pub record Written (K : ℕ) (rs : List Row) (q : RunRefusal) (c : Call) : Type 0 where
   pub refusal : c .after .refusal ≡ some (refuse (q .number) (q .place))
   pub finished : c .after .windows ≡ q .finished
