@@ -9,7 +9,7 @@ use mathlib.Core.List.{List, [], _∷_, _++_, map}
 use mathlib.Core.Option.{Option, none, some}
 use borrow.Author.Tests.{lt-ltb, le-leb}
 use lib.Dec.{leb, ltb}
-use lib.ListN.{length, take, length-map, drop, replicate}
+use lib.ListN.{length, take, length-map, drop}
 use lib.Seq.{take-nil, take-take}
 use lib.Ieee.{Float}
 use lib.Ieee.Scale.{finite}
@@ -231,7 +231,7 @@ unfolding answer
 answer-leading M n k K h rs ss (ok c) (ok e) q s = rw (q, s .1) (simp map-take)
 answer-leading M n k K h rs ss (ok c) (refused b) q s = absurd s
 answer-leading M n k K h rs ss (refused a) (ok e) q s = absurd s
-answer-leading M n k K h rs ss (refused a) (refused b) q s = rw (q, s, take-take {A = ℕ} k K (replicate 16 0) h)
+answer-leading M n k K h rs ss (refused a) (refused b) q s = rw (q, s, take-take)
 
 late-answer : (M : Dynamics) (n k K : ℕ) (rs : List Row) (x y : Status) → Excluded (prefix (M .dim) k) x y → RefusedFrom (M .dim) k (answer M n K rs x)
 unfolding answer
@@ -290,7 +290,7 @@ module _ (P : Problem) (S : Sound P) (pd : 0 < P .dynamics .dim) (k K : ℕ) (h 
   by-test : (r : Refusal) → (r .number ≢ 14) × (r .number ≢ 17)
       → (leading k (run-past (some r) P K) ≡ run-past (some r) P k) ↔ ¬ RefusedFrom (P .dynamics .dim) k (run-past (some r) P K)
   unfolding run-past
-  by-test r p = (λ _. other (P .dynamics .dim) k (r .number) (r .place) 0 0 (p .0) (p .1), λ _. rw (take-take {A = ℕ} k K (replicate 16 0) h))
+  by-test r p = (λ _. other (P .dynamics .dim) k (r .number) (r .place) 0 0 (p .0) (p .1), λ _. rw take-take)
 
 -- ---- the tests
 
