@@ -2,7 +2,8 @@
 //
 // Every function is total and hands the promise of the library's own function on. A refusal's number is the result, 0 for
 // none, as specs/Refusal.antt of crate error has it. specs/Interface.antt says what a system's number means, and what is
-// written through a pointer. specs/Marked.antt is document 01's table of marked examples.
+// written through a pointer. specs/LeadingOutputs.antt states that a call from C is a call of the library's own function,
+// and that its first rates hold still. specs/Marked.antt is document 01's table of marked examples.
 ghost use mathlib.Core.Path.{_≡_};
 ghost use mathlib.Core.List.{List, _∷_};
 ghost use lib.Ieee.{Float};
