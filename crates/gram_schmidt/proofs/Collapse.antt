@@ -4,7 +4,7 @@ use native.Mathlib.Nat.{eq-or-lt-of-le}
 use native.Mathlib.Omega.{arith}
 use mathlib.Core.Path.{_≡_, refl, sym, ap, _∙_}
 use mathlib.Core.Logic.{_⊎_, inl, inr}
-use mathlib.Core.Bool.{Bool, true, false, not, _||_}
+use mathlib.Core.Bool.{Bool, true, false, not, _||_, cond}
 use mathlib.Core.List.{List, map}
 use borrow.Author.Tests.{ltb-false, lt-ltb, eq-eqb}
 use lib.Dec.{ltb}
@@ -14,12 +14,11 @@ use lib.Ieee.Scale.{finite}
 use Rattle.error.specs.Refusal.{value, refused, refusal}
 use Rattle.error.specs.declared.LyapunovError.{LyapunovError}
 use Rattle.floats.specs.Arithmetic.{_⊘_, least-normal}
-use Rattle.sqrt.specs.SquareRoot.{root}
 use Rattle.ln.specs.Logarithm.{log, normal, logarithm, answer}
 use Rattle.ln.specs.declared.Logarithm.{Logarithm}
 use Rattle.ln.specs.declared.Logarithm.the-variants.{Value, Refused}
-use Rattle.gram_schmidt.specs.Orthonormalise.{collapsed}
-use Rattle.gram_schmidt.specs.GramSchmidt.{squared-length, normalised, divided}
+use Rattle.gram_schmidt.specs.Orthonormalise.{Lengths, collapsed}
+use Rattle.gram_schmidt.specs.GramSchmidt.{normalised, divided}
 use Rattle.gram_schmidt.specs.declared.Normalised.the-variants.{By, Collapsed}
 
 or-true : (a : Bool) → (a || true) ≡ true
@@ -67,15 +66,35 @@ normal-held (inf true) h g = sym h
 normal-held (inf false) h g = g
 normal-held (fin s m e) h g = rw (total s (m * up e * down (negsuc 1021)) (1 * up (negsuc 1021) * down e) h)
 
--- ---- what is left of a direction
+-- ---- what is left of a direction, for any lengths
 
-pub norm-collapsed : (xs : List Float) (q r : Float) → q ≡ squared-length xs → r ≡ root q → collapsed r ≡ true → (Collapsed ≡ normalised xs) × (xs ≡ divided xs)
-norm-collapsed xs q r e f h = let g : collapsed (root (squared-length xs)) ≡ true = rw (f, e) at h in (rw g, rw g)
+chosen-divided : (b : Bool) (w u : List Float) (l₀ q₀ l q : Float) → cond b Collapsed (By l₀ q₀) ≡ By l q → (b ≡ false) × (cond b w u ≡ u) × (l ≡ l₀) × (q ≡ q₀)
+chosen-divided true w u l₀ q₀ l q e = let z : _≡_ {A = ℕ} 0 1 = cc in absurd (omega arith)
+chosen-divided false w u l₀ q₀ l q e = (refl, refl, cc, cc)
 
-pub norm-divided : (xs : List Float) (q r l : Float) (ys : List Float) → q ≡ squared-length xs → r ≡ root q → collapsed r ≡ false → l ≡ log r
-    → ys ≡ map (λ x. x ⊘ r) xs → (By l q ≡ normalised xs) × (ys ≡ divided xs)
-norm-divided xs q r l ys e f h k m =
-    let g : collapsed (root (squared-length xs)) ≡ false = rw (f, e) at h in (rw (g, k, f, e), rw (g, m, f, e))
+chosen-collapsed : (b : Bool) (w u : List Float) (l₀ q₀ : Float) → cond b Collapsed (By l₀ q₀) ≡ Collapsed → (b ≡ true) × (cond b w u ≡ w)
+chosen-collapsed true w u l₀ q₀ e = (refl, refl)
+chosen-collapsed false w u l₀ q₀ e = let z : _≡_ {A = ℕ} 0 1 = cc in absurd (omega arith)
+
+module _ (L : Lengths) (w : List Float) where
+  abbrev pub by-norm : List Float
+  by-norm = map (λ x. x ⊘ L .norm w) w
+
+  -- what is known from the answer
+  pub was-divided : (l q : Float) → normalised L w ≡ By l q → (collapsed (L .norm w) ≡ false) × (divided L w ≡ by-norm) × (l ≡ L .log (L .norm w)) × (q ≡ L .report w)
+  was-divided l q = chosen-divided (collapsed (L .norm w)) w by-norm (L .log (L .norm w)) (L .report w) l q
+
+  pub was-collapsed : normalised L w ≡ Collapsed → (collapsed (L .norm w) ≡ true) × (divided L w ≡ w)
+  was-collapsed = chosen-collapsed (collapsed (L .norm w)) w by-norm (L .log (L .norm w)) (L .report w)
+
+  -- what is answered, r being the norm as it was computed
+  module _ (r : Float) (e : r ≡ L .norm w) where
+    pub norm-collapsed : collapsed r ≡ true → (Collapsed ≡ normalised L w) × (w ≡ divided L w)
+    norm-collapsed h = let g : collapsed (L .norm w) ≡ true = rw e at h in (rw g, rw g)
+
+    pub norm-divided : (q l : Float) (ys : List Float) → collapsed r ≡ false → q ≡ L .report w → l ≡ L .log r → ys ≡ map (λ x. x ⊘ r) w
+        → (By l q ≡ normalised L w) × (ys ≡ divided L w)
+    norm-divided q l ys h f k m = let g : collapsed (L .norm w) ≡ false = rw e at h in (rw (g, k, f, e), rw (g, m, e))
 
 -- ---- what the logarithm answers
 

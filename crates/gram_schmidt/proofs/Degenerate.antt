@@ -17,7 +17,7 @@ use Rattle.floats.proofs.Ordinary.{ordinary}
 use Rattle.floats.proofs.Sign.{Sign, round-sign}
 use Rattle.floats.proofs.Zero.{refuted, zero-equal, nonzero-differs}
 use Rattle.gram_schmidt.specs.Orthonormalise.{collapsed}
-use Rattle.gram_schmidt.specs.GramSchmidt.{squared-length}
+use Rattle.gram_schmidt.specs.GramSchmidt.{euclidean}
 use Rattle.gram_schmidt.specs.Collapse.{degenerate, CollapseMeaning}
 use Rattle.floats.specs.Arithmetic.{zero⁺, least-normal}
 use Rattle.floats.specs.Vector.{dot-from}
@@ -96,4 +96,4 @@ of-root (fin false (suc m) e) p f = let r = root-large f (ordinary m e) in rw (r
 
 pub collapse-is : CollapseMeaning
 unfolding round
-collapse-is w = let h = sum-unsigned zero⁺ w tt (round-fits binary64 false 0 1) in of-root (squared-length w) (h .0) (h .1)
+collapse-is w = let h = sum-unsigned zero⁺ w tt (round-fits binary64 false 0 1) in of-root (euclidean .report w) (h .0) (h .1)

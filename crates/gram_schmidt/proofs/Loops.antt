@@ -8,8 +8,8 @@ use mathlib.Core.List.{List, [], _∷_}
 use lib.ListN.{length, drop, getD, set, length-set, drop-of-length-le}
 use lib.Seq.{sets, length-sets, drop-set-lt, drop-set-add, take-set-lt, getD-take, getD-drop, drop-drop, getD-set-same, getD-set-other}
 use lib.Ieee.{Float, nan, binary64, add, sub, mul}
-use Rattle.gram_schmidt.specs.Orthonormalise.{subtract-projection, orthogonalise}
-use Rattle.floats.specs.Arithmetic.{_⊖_, _⊗_, zero⁺}
+use Rattle.gram_schmidt.specs.Orthonormalise.{subtract-projection, orthogonalise, orthogonalise-twice}
+use Rattle.floats.specs.Arithmetic.{_⊖_, _⊗_}
 use Rattle.floats.specs.Vector.{updated, dot-from, part, chunks}
 use Rattle.floats.proofs.Sets.{part-length, part-cons, part-set, part-sets, sets-over, sets-own}
 use Rattle.floats.proofs.Updated.{updated-cons, updated-length}
@@ -55,11 +55,11 @@ abbrev pub summing : ℕ → ℕ → ℕ → List Float → Float → ℕ → Fl
 summing n t d zs s i = dot-from s (part (n + i) (d - i) zs) (part (t + i) (d - i) zs)
 
 -- zs is what the list is left as: nothing before the entry that iteration i writes is written any more
-pub sum-next : (p : Float) (n b t d : ℕ) (xs zs : List Float) (s : Float) (i : ℕ) → i < d → n ≤ t → t + d ≤ length xs
+pub summing-next : (p : Float) (n b t d : ℕ) (xs zs : List Float) (s : Float) (i : ℕ) → i < d → n ≤ t → t + d ≤ length xs
     → zs ≡ subtracting p b t d (set xs (t + i) (entry p b t xs i)) (i + 1)
     → summing n t d zs s i ≡ summing n t d zs (add binary64 s (mul binary64 (getD (set xs (t + i) (entry p b t xs i)) (n + i) nan) (entry p b t xs i))) (i + 1)
 unfolding dot-from
-sum-next p n b t d xs zs s i h g k e =
+summing-next p n b t d xs zs s i h g k e =
     let ys = set xs (t + i) (entry p b t xs i) in
     let m : length zs ≡ length xs = ap length e ∙ length-sets ys (t + (i + 1)) (rest p b t d ys (i + 1)) ∙ length-set xs (t + i) (entry p b t xs i) in
     let kept : (j : ℕ) → j < t + (i + 1) → getD zs j nan ≡ getD ys j nan = λ j l. rw e (getD-before ys (t + (i + 1)) (rest p b t d ys (i + 1)) j l) in
@@ -70,12 +70,12 @@ sum-next p n b t d xs zs s i h g k e =
     let z = kept (t + i) (omega arith) ∙ getD-set-same xs (t + i) (entry p b t xs i) nan (omega arith) in
     rw (e₁, e₂, e₃, part-cons (n + i) (d - (i + 1)) zs (omega arith), part-cons (t + i) (d - (i + 1)) zs (omega arith), a, z)
 
-pub sum-end : (n t d : ℕ) (zs : List Float) (s : Float) (i : ℕ) → d ≤ i → summing n t d zs s i ≡ s
+pub summing-end : (n t d : ℕ) (zs : List Float) (s : Float) (i : ℕ) → d ≤ i → summing n t d zs s i ≡ s
 unfolding dot-from
-sum-end n t d zs s i h = let e : d - i ≡ 0 = omega arith in rw e
+summing-end n t d zs s i h = let e : d - i ≡ 0 = omega arith in rw e
 
-pub sum-start : (n t d : ℕ) (zs : List Float) (s : Float) → summing n t d zs s 0 ≡ dot-from s (part n d zs) (part t d zs)
-sum-start n t d zs s = simp (add-zero, sub-zero)
+pub summing-start : (n t d : ℕ) (zs : List Float) (s : Float) → summing n t d zs s 0 ≡ dot-from s (part n d zs) (part t d zs)
+summing-start n t d zs s = simp (add-zero, sub-zero)
 
 -- ---- a direction cleared of each earlier one
 
@@ -84,42 +84,47 @@ unfolding orthogonalise
 orthogonalise-length z [] v = refl
 orthogonalise-length z (b ∷ bs) v = orthogonalise-length z bs (subtract-projection (dot-from z b v) v b) ∙ updated-length _ v b
 
-abbrev pub orthogonalising : ℕ → ℕ → List Float → ℕ → List Float
-orthogonalising d v xs p = sets xs (v * d) (orthogonalise zero⁺ (chunks d (v - p) (drop (p * d) xs)) (part (v * d) d xs))
+pub orthogonalise-twice-length : (z : Float) (bs : List (List Float)) (v : List Float) → length (orthogonalise-twice z bs v) ≡ length v
+orthogonalise-twice-length z bs v = orthogonalise-length z bs _ ∙ orthogonalise-length z _ v
 
-abbrev pub subtracted : ℕ → ℕ → List Float → ℕ → List Float
-subtracted d v xs p =
-    let b = part (p * d) d xs in
-    let t = part (v * d) d xs in
-    subtract-projection (dot-from zero⁺ b t) t b
+-- with sums from z
+module _ (z : Float) where
+  abbrev pub orthogonalising : ℕ → ℕ → List Float → ℕ → List Float
+  orthogonalising d v xs p = sets xs (v * d) (orthogonalise z (chunks d (v - p) (drop (p * d) xs)) (part (v * d) d xs))
 
-pub orthogonalise-next : (d v : ℕ) (xs : List Float) (p : ℕ) → p < v → v * d + d ≤ length xs
-    → orthogonalising d v xs p ≡ orthogonalising d v (sets xs (v * d) (subtracted d v xs p)) (p + 1)
-unfolding orthogonalise chunks
-orthogonalise-next d v xs p h g =
-    let m = v - (p + 1) in
-    let w = subtracted d v xs p in
-    let e₁ : v - p ≡ suc m = omega arith in
-    let e₂ : (p + 1) * d ≡ p * d + d = rw (add-one, suc-mul) in
-    let e₃ : v ≡ suc p + m = omega arith in
-    let e₄ : v * d ≡ p * d + d + m * d = ap (λ (n : ℕ). n * d) e₃ ∙ rw (add-mul, suc-mul) in
-    let e₅ : length w ≡ d = updated-length _ _ _ ∙ part-length (v * d) d xs g in
-    let e₆ : length w ≡ length (orthogonalise zero⁺ (chunks d m (drop (p * d + d) xs)) w) = sym (orthogonalise-length zero⁺ (chunks d m (drop (p * d + d) xs)) w) in
-    rw (e₁, e₂, part-sets xs (v * d) w d e₅ g, chunks-sets d m (p * d + d) xs (v * d) w (omega arith), drop-drop d (p * d) xs)
-    (sym (sets-over xs (v * d) w (orthogonalise zero⁺ (chunks d m (drop (p * d + d) xs)) w) e₆ (omega arith)))
+  abbrev pub subtracted : ℕ → ℕ → List Float → ℕ → List Float
+  subtracted d v xs p =
+      let b = part (p * d) d xs in
+      let t = part (v * d) d xs in
+      subtract-projection (dot-from z b t) t b
 
-pub orthogonalise-end : (d v : ℕ) (xs : List Float) (p : ℕ) → v ≤ p → v * d + d ≤ length xs → orthogonalising d v xs p ≡ xs
-unfolding orthogonalise chunks
-orthogonalise-end d v xs p h g =
-    let e : v - p ≡ 0 = omega arith in
-    rw e (sets-own xs (v * d) d g)
+  pub orthogonalise-next : (d v : ℕ) (xs : List Float) (p : ℕ) → p < v → v * d + d ≤ length xs
+      → orthogonalising d v xs p ≡ orthogonalising d v (sets xs (v * d) (subtracted d v xs p)) (p + 1)
+  unfolding orthogonalise chunks
+  orthogonalise-next d v xs p h g =
+      let m = v - (p + 1) in
+      let w = subtracted d v xs p in
+      let e₁ : v - p ≡ suc m = omega arith in
+      let e₂ : (p + 1) * d ≡ p * d + d = rw (add-one, suc-mul) in
+      let e₃ : v ≡ suc p + m = omega arith in
+      let e₄ : v * d ≡ p * d + d + m * d = ap (λ (n : ℕ). n * d) e₃ ∙ rw (add-mul, suc-mul) in
+      let e₅ : length w ≡ d = updated-length _ _ _ ∙ part-length (v * d) d xs g in
+      let e₆ : length w ≡ length (orthogonalise z (chunks d m (drop (p * d + d) xs)) w) = sym (orthogonalise-length z (chunks d m (drop (p * d + d) xs)) w) in
+      rw (e₁, e₂, part-sets xs (v * d) w d e₅ g, chunks-sets d m (p * d + d) xs (v * d) w (omega arith), drop-drop d (p * d) xs)
+      (sym (sets-over xs (v * d) w (orthogonalise z (chunks d m (drop (p * d + d) xs)) w) e₆ (omega arith)))
 
-pub orthogonalise-start : (d v : ℕ) (xs : List Float) → orthogonalising d v xs 0 ≡ sets xs (v * d) (orthogonalise zero⁺ (chunks d v xs) (part (v * d) d xs))
-orthogonalise-start d v xs = simp (zero-mul, sub-zero)
+  pub orthogonalise-end : (d v : ℕ) (xs : List Float) (p : ℕ) → v ≤ p → v * d + d ≤ length xs → orthogonalising d v xs p ≡ xs
+  unfolding orthogonalise chunks
+  orthogonalise-end d v xs p h g =
+      let e : v - p ≡ 0 = omega arith in
+      rw e (sets-own xs (v * d) d g)
 
--- an iteration as the code has it: r is the product
-pub orthogonalise-iteration : (d v : ℕ) (xs : List Float) (p : ℕ) (r : Float) (ys : List Float) → p < v → v * d + d ≤ length xs
-    → r ≡ dot-from zero⁺ (part (p * d) d xs) (part (v * d) d xs)
-    → ys ≡ sets xs (v * d) (subtract-projection r (part (v * d) d xs) (part (p * d) d xs))
-    → orthogonalising d v xs p ≡ orthogonalising d v ys (p + 1)
-orthogonalise-iteration d v xs p r ys h g e f = rw (f, e) (orthogonalise-next d v xs p h g)
+  pub orthogonalise-start : (d v : ℕ) (xs : List Float) → orthogonalising d v xs 0 ≡ sets xs (v * d) (orthogonalise z (chunks d v xs) (part (v * d) d xs))
+  orthogonalise-start d v xs = simp (zero-mul, sub-zero)
+
+  -- an iteration as the code has it: r is the product
+  pub orthogonalise-iteration : (d v : ℕ) (xs : List Float) (p : ℕ) (r : Float) (ys : List Float) → p < v → v * d + d ≤ length xs
+      → r ≡ dot-from z (part (p * d) d xs) (part (v * d) d xs)
+      → ys ≡ sets xs (v * d) (subtract-projection r (part (v * d) d xs) (part (p * d) d xs))
+      → orthogonalising d v xs p ≡ orthogonalising d v ys (p + 1)
+  orthogonalise-iteration d v xs p r ys h g e f = rw (f, e) (orthogonalise-next d v xs p h g)

@@ -18,7 +18,7 @@ use Rattle.floats.specs.Arithmetic.{_⊗_, faint-limit}
 use Rattle.floats.proofs.Units.{U, few-digits}
 use Rattle.floats.proofs.Rounding.{rounded-subnormal, round-value-subnormal}
 use Rattle.sqrt.proofs.Meets.{square-cancel}
-use Rattle.gram_schmidt.specs.GramSchmidt.{squared-length}
+use Rattle.gram_schmidt.specs.GramSchmidt.{euclidean}
 use Rattle.gram_schmidt.specs.Underflow.{in-units, UnitsExact, exact-square, rounded-square, distance, lost, lost-squares, UnderflowBound}
 
 -- ---- a value in units
@@ -119,4 +119,4 @@ below-part c b n l u G h g p few k =
     omega (arith, mul-le-mul-left c k, mul-le-mul-left c (mul-le-mul-right (u - 1) few), mul-le-mul-right (u - 1) h, mul-le-mul-right u g)
 
 pub underflow-bound : UnderflowBound
-underflow-bound v few f h = below-part _ _ _ _ _ _ (lit≤ tt) (not-faint (squared-length v) f h) (pow-pos 1074) few (lost-squares-below U lost-below v)
+underflow-bound v few f h = below-part _ _ _ _ _ _ (lit≤ tt) (not-faint (euclidean .report v) f h) (pow-pos 1074) few (lost-squares-below U lost-below v)

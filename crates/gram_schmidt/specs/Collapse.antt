@@ -5,14 +5,13 @@ use mathlib.Core.List.{List}
 use lib.Ieee.{Float, eq}
 use lib.Ieee.Scale.{finite}
 use Rattle.floats.specs.Arithmetic.{zero⁺}
-use Rattle.sqrt.specs.SquareRoot.{root}
 use Rattle.gram_schmidt.specs.Orthonormalise.{collapsed}
-use Rattle.gram_schmidt.specs.GramSchmidt.{squared-length}
+use Rattle.gram_schmidt.specs.GramSchmidt.{euclidean}
 
 -- 0, or not finite
 abbrev pub degenerate : Float → Bool
 degenerate q = not (finite q) || eq q zero⁺
 
--- of every cleared direction w: what the orthonormaliser tests, of the root, is that of the squared length
+-- of every cleared direction w, of euclidean lengths: what the orthonormaliser tests, of the root, is that of the squared length
 abbrev pub CollapseMeaning : Type 0
-CollapseMeaning = (w : List Float) → collapsed (root (squared-length w)) ≡ degenerate (squared-length w)
+CollapseMeaning = (w : List Float) → collapsed (euclidean .norm w) ≡ degenerate (euclidean .report w)

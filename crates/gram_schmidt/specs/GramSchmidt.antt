@@ -14,30 +14,44 @@ use Rattle.floats.specs.Arithmetic.{_⊘_, zero⁺, faint-limit}
 use Rattle.floats.specs.Vector.{dot-from, part, chunks, concat}
 use Rattle.sqrt.specs.SquareRoot.{root}
 use Rattle.ln.specs.Logarithm.{log}
-use Rattle.gram_schmidt.specs.Orthonormalise.{Lengths, Basis, orthonormalise, orthogonalise, collapsed}
+use Rattle.gram_schmidt.specs.Orthonormalise.{Lengths, Basis, orthonormalise, orthogonalise-twice, collapsed}
 use Rattle.gram_schmidt.specs.declared.Normalised.{Normalised}
 use Rattle.gram_schmidt.specs.declared.Normalised.the-variants.{By, Collapsed}
 
--- the sum of the squares, from +0.0
-abbrev pub squared-length : List Float → Float
-squared-length w = dot-from zero⁺ w w
+-- ---- lengths
 
--- lengths by the root of the squared length; a direction is faint where its squared length is below 2 ^ -960
+-- the sum of the squares, from z
+abbrev pub squared-length : Float → List Float → Float
+squared-length z w = dot-from z w w
+
+-- the zero that the code's sums start from
+abbrev pub sum-start : Float
+sum-start = zero⁺
+
+-- What the code has: lengths by the root of the squared length. A direction is faint where its squared length is below 2 ^ -960.
 abbrev pub euclidean : Lengths
-euclidean = record { start = zero⁺; norm = λ v. root (squared-length v); report = squared-length; log = log; faint = λ q. lt q faint-limit }
+euclidean =
+    record {
+      start = sum-start;
+      norm = λ w. root (squared-length sum-start w);
+      report = squared-length sum-start;
+      log = log;
+      faint = λ q. lt q faint-limit;
+    }
 
 -- ---- one direction
 
 -- direction v of a slice, cleared twice of those before it
-abbrev pub cleared : ℕ → ℕ → List Float → List Float
-cleared d v xs = orthogonalise zero⁺ (chunks d v xs) (orthogonalise zero⁺ (chunks d v xs) (part (v * d) d xs))
+abbrev pub cleared : Lengths → ℕ → ℕ → List Float → List Float
+cleared L d v xs = orthogonalise-twice (L .start) (chunks d v xs) (part (v * d) d xs)
 
--- its logarithm and its squared length, unless it collapsed
-abbrev pub normalised : List Float → Normalised
-normalised w = cond (collapsed (root (squared-length w))) Collapsed (By (log (root (squared-length w))) (squared-length w))
+-- its logarithm and its report, unless it collapsed
+abbrev pub normalised : Lengths → List Float → Normalised
+normalised L w = cond (collapsed (L .norm w)) Collapsed (By (L .log (L .norm w)) (L .report w))
 
-abbrev pub divided : List Float → List Float
-divided w = cond (collapsed (root (squared-length w))) w (map (λ x. x ⊘ root (squared-length w)) w)
+-- its entries divided by its norm, unless it collapsed
+abbrev pub divided : Lengths → List Float → List Float
+divided L w = cond (collapsed (L .norm w)) w (map (λ x. x ⊘ L .norm w) w)
 
 -- ---- all of them
 
@@ -54,19 +68,19 @@ abbrev pub collapse-refusal : Option ℕ → Option Refusal
 collapse-refusal none = none
 collapse-refusal (some v) = some (refuse 14 v)
 
--- The directions are written from the start, the logarithms from the start of the second slice, and the squared lengths from place n. Leftover entries stay.
+-- The directions are written from the start, the logarithms from the start of the second slice, and the reports from place n. Leftover entries stay.
 unfoldable pub stored : ℕ → List Float → List Float → Basis → Orthonormalised
 unfolding concat
 stored n xs norms b = holds (collapse-refusal (b .collapse)) (sets xs 0 (concat (b .directions))) (sets (sets norms n (b .reports)) 0 (b .logs))
 
--- of the slice xs as directions of d entries, with norms for their logarithms and squared lengths
-unfoldable pub orthonormalised : List Float → ℕ → List Float → Orthonormalised
+-- of the slice xs as directions of d entries, with norms for their logarithms and reports
+unfoldable pub orthonormalised : Lengths → List Float → ℕ → List Float → Orthonormalised
 unfolding stored orthonormalise chunks
-orthonormalised xs d norms =
+orthonormalised L xs d norms =
     let n = length xs / d in
     cond (eqb d 0) (holds (some (refuse 7 0)) xs norms)
     (cond (ltb (length norms) (2 * n)) (holds (some (refuse 13 0)) xs norms)
-    (stored n xs norms (orthonormalise euclidean [] (chunks d n xs))))
+    (stored n xs norms (orthonormalise L [] (chunks d n xs))))
 
 -- what the code's answer and its slices stand for
 abbrev pub observed : Outcome → List Float → List Float → Orthonormalised

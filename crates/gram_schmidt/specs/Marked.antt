@@ -9,7 +9,7 @@ use Rattle.error.specs.Refusal.{refuse}
 use Rattle.floats.specs.Arithmetic.{bits, whole, zero⁺, one, two}
 use Rattle.sqrt.specs.SquareRoot.{root}
 use Rattle.ln.specs.Logarithm.{log}
-use Rattle.gram_schmidt.specs.GramSchmidt.{Orthonormalised, orthonormalised}
+use Rattle.gram_schmidt.specs.GramSchmidt.{euclidean, Orthonormalised, orthonormalised}
 
 abbrev three : Float
 three = fin false 3 (pos 0)
@@ -19,11 +19,11 @@ zeros = zero⁺ ∷ zero⁺ ∷ zero⁺ ∷ zero⁺ ∷ []
 
 -- (2,0),(2,3)
 abbrev independent : Orthonormalised
-independent = orthonormalised (two ∷ zero⁺ ∷ two ∷ three ∷ []) 2 zeros
+independent = orthonormalised euclidean (two ∷ zero⁺ ∷ two ∷ three ∷ []) 2 zeros
 
 -- (1,0),(2,0)
 abbrev parallel : Orthonormalised
-parallel = orthonormalised (one ∷ zero⁺ ∷ two ∷ zero⁺ ∷ []) 2 zeros
+parallel = orthonormalised euclidean (one ∷ zero⁺ ∷ two ∷ zero⁺ ∷ []) 2 zeros
 
 abbrev pub Marked : Type 0
 Marked =
@@ -35,7 +35,7 @@ unfolding orthonormalised root log toBits add sub mul div round le lt eq ofInt o
 marked = (refl, refl, refl, refl, refl)
 
 -- (2,3,6),(1,9,4) and an entry left over, with more room than is needed
-pub two-of-three : orthonormalised (whole 2 ∷ whole 3 ∷ whole 6 ∷ whole 1 ∷ whole 9 ∷ whole 4 ∷ whole 5 ∷ []) 3 (whole 11 ∷ whole 13 ∷ whole 17 ∷ whole 19 ∷ whole 23 ∷ whole 29 ∷ [])
+pub two-of-three : orthonormalised euclidean (whole 2 ∷ whole 3 ∷ whole 6 ∷ whole 1 ∷ whole 9 ∷ whole 4 ∷ whole 5 ∷ []) 3 (whole 11 ∷ whole 13 ∷ whole 17 ∷ whole 19 ∷ whole 23 ∷ whole 29 ∷ [])
     ≡ record {
       refusal = none;
       tangents = bits 0x3fd2_4924_9249_2492 ∷ bits 0x3fdb_6db6_db6d_b6db ∷ bits 0x3feb_6db6_db6d_b6db ∷ bits 0xbfc7_58dc_3945_9ef7 ∷ bits 0x3fec_e06e_b2a0_3725 ∷ bits 0xbfd8_fc49_fe69_f1fb ∷ whole 5 ∷ [];

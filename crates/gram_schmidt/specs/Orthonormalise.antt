@@ -17,6 +17,10 @@ unfoldable pub orthogonalise : Float → List (List Float) → List Float → Li
 orthogonalise z [] v = v
 orthogonalise z (b ∷ bs) v = orthogonalise z bs (subtract-projection (dot-from z b v) v b)
 
+-- cleared twice: the second time takes what rounding left the first time
+abbrev pub orthogonalise-twice : Float → List (List Float) → List Float → List Float
+orthogonalise-twice z bs v = orthogonalise z bs (orthogonalise z bs v)
+
 -- How lengths are taken. `start` is the zero that a sum starts from. `norm` of a cleared direction is what its entries are divided by and what the test of a collapse is on;
 -- `report` is the number that is given beside the logarithm of the norm, and it may be `faint`.
 pub record Lengths : Type 0 where
@@ -48,7 +52,7 @@ unfoldable pub orthonormalise : Lengths → List (List Float) → List (List Flo
 unfolding dot-from updated collapsed orthogonalise with-direction
 orthonormalise L done [] = record { directions = []; logs = []; reports = []; collapse = none }
 orthonormalise L done (v ∷ vs) =
-    let w = orthogonalise (L .start) done (orthogonalise (L .start) done v) in
+    let w = orthogonalise-twice (L .start) done v in
     let r = L .norm w in
     let u = map (λ x. x ⊘ r) w in
     let rest = orthonormalise L (done ++ (u ∷ [])) vs in

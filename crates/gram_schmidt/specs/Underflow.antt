@@ -10,7 +10,7 @@ use lib.Ieee.{Float, nan, inf, fin, binary64, up, down, fits, add, mul, round}
 use lib.Ieee.Scale.{finite}
 use Rattle.floats.specs.Arithmetic.{_⊗_, faint-limit}
 use Rattle.floats.specs.Vector.{dot-from}
-use Rattle.gram_schmidt.specs.GramSchmidt.{squared-length, euclidean}
+use Rattle.gram_schmidt.specs.GramSchmidt.{euclidean}
 
 -- the magnitude of a finite value in units of the smallest one, 2 ^ -1074, as a whole number
 abbrev pub in-units : Float → ℕ
@@ -40,16 +40,16 @@ unfoldable pub lost-squares : List Float → ℕ
 lost-squares [] = 0
 lost-squares (x ∷ v) = lost x + lost-squares v
 
--- of the squared length that the orthonormaliser reports, for a direction of any system
+-- of the squared length that the orthonormaliser reports by euclidean lengths, for a direction of any system
 abbrev pub UnderflowBound : Type 0
 UnderflowBound =
-    (v : List Float) → length v ≤ 16 → let q = squared-length v in finite q ≡ true → euclidean .faint q ≡ false → 2 ^ 110 * lost-squares v < in-units q * 2 ^ 1074
+    (v : List Float) → length v ≤ 16 → let q = euclidean .report v in finite q ≡ true → euclidean .faint q ≡ false → 2 ^ 110 * lost-squares v < in-units q * 2 ^ 1074
 
 -- ---- an example: (2 ^ -480, -2 ^ -538, 5 * 2 ^ -539), of squared length 2 ^ -960
 -- The second square, 1/4 unit, is rounded to 0, and the third, 25/16 units, to 2: together they lose 11/16 of a unit.
 abbrev direction : List Float
 direction = fin false 1 (negsuc 479) ∷ fin true 1 (negsuc 537) ∷ fin false 5 (negsuc 538) ∷ []
 
-pub example : (squared-length direction ≡ faint-limit) × (lost-squares direction ≡ 11 * 2 ^ 1070)
+pub example : (euclidean .report direction ≡ faint-limit) × (lost-squares direction ≡ 11 * 2 ^ 1070)
 unfolding dot-from lost lost-squares add mul round
 example = (refl, refl)

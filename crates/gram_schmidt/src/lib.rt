@@ -2,18 +2,23 @@
 //
 // `modified_gram_schmidt` (source: estimator.rs) equals the definition of specs/GramSchmidt.antt for every input: its
 // answer, and every float left in both slices. specs/Orthonormalise.antt has the operations on one direction after the
-// other. specs/Collapse.antt says what a collapse means: a squared length of 0 or one that is not finite.
+// other, over how lengths are taken; the code takes them by `euclidean`. specs/Collapse.antt says what a collapse means
+// there: a squared length of 0 or one that is not finite.
 ghost use mathlib.Core.Path.{_≡_};
 ghost use Prim.Native.Nat.{_+_, _*_, _≤_, _<_};
 ghost use mathlib.Core.List.{map};
 ghost use lib.ListN.{length};
 ghost use lib.Seq.{sets};
-ghost use Rattle.floats.specs.Arithmetic.{_⊘_, zero⁺};
+ghost use Rattle.floats.specs.Arithmetic.{_⊘_};
 ghost use Rattle.floats.specs.Vector.{dot-from, part, chunks};
 ghost use Rattle.gram_schmidt.specs.Orthonormalise.{subtract-projection, orthogonalise};
 ghost use Rattle.gram_schmidt.specs.GramSchmidt as Spec;
+ghost use Rattle.gram_schmidt.specs.GramSchmidt.{squared-length, euclidean};
 use error::LyapunovError;
 use error::Outcome;
+
+// The zero that every sum starts from.
+const SUM_START: f64 = 0.0;
 
 // What becomes of a cleared direction: its logarithm and its squared length, or nothing.
 enum Normalised {
@@ -21,12 +26,12 @@ enum Normalised {
     Collapsed,
 }
 
-// The sum of a[i] * b[i], from +0.0, in index order.
+// The sum of a[i] * b[i], in index order.
 fn dot_disjoint<'a>(a: &'a [f64], b: &'a [f64]) -> f64
     requires { ⌜ length (now a) ≡ length (now b) ⌝ }
-    ensures { λ r. ⌜ r ≡ dot-from zero⁺ (now (a .entry)) (now (b .entry)) ⌝ }
+    ensures { λ r. ⌜ r ≡ dot-from (euclidean .start) (now (a .entry)) (now (b .entry)) ⌝ }
 {
-    let mut s = 0.0;
+    let mut s = SUM_START;
     let mut i = 0;
     while i < a.len() {
         s = s + a[i] * b[i];
@@ -47,9 +52,9 @@ fn subtract_projection(
 ) -> f64
     requires { ⌜ (basis + d ≤ target) × (next ≤ target) × (target + d ≤ length (now values)) ⌝ }
     ensures { λ r. ⌜ (now (values .exit) ≡ sets (now (values .entry)) target (subtract-projection p (part target d (now (values .entry))) (part basis d (now (values .entry)))))
-        × (r ≡ dot-from zero⁺ (part next d (now (values .exit))) (part target d (now (values .exit)))) ⌝ }
+        × (r ≡ dot-from (euclidean .start) (part next d (now (values .exit))) (part target d (now (values .exit)))) ⌝ }
 {
-    let mut product = 0.0;
+    let mut product = SUM_START;
     let mut i = 0;
     while i < d {
         let x = values[target + i] - p * values[basis + i];
@@ -63,9 +68,9 @@ fn subtract_projection(
 // The direction at v * d, cleared once of each earlier one. `first` is its dot product with the first of them. Answers
 // the dot product of the one at last with what is left.
 fn orthogonalise_once(values: &mut [f64], v: usize, d: usize, first: f64, last: usize) -> f64
-    requires { ⌜ (0 < v) × (v * d + d ≤ length (now values)) × (last ≤ v * d) × (first ≡ dot-from zero⁺ (part 0 d (now values)) (part (v * d) d (now values))) ⌝ }
-    ensures { λ r. ⌜ (now (values .exit) ≡ sets (now (values .entry)) (v * d) (orthogonalise zero⁺ (chunks d v (now (values .entry))) (part (v * d) d (now (values .entry)))))
-        × (r ≡ dot-from zero⁺ (part last d (now (values .exit))) (part (v * d) d (now (values .exit)))) ⌝ }
+    requires { ⌜ (0 < v) × (v * d + d ≤ length (now values)) × (last ≤ v * d) × (first ≡ dot-from (euclidean .start) (part 0 d (now values)) (part (v * d) d (now values))) ⌝ }
+    ensures { λ r. ⌜ (now (values .exit) ≡ sets (now (values .entry)) (v * d) (orthogonalise (euclidean .start) (chunks d v (now (values .entry))) (part (v * d) d (now (values .entry)))))
+        × (r ≡ dot-from (euclidean .start) (part last d (now (values .exit))) (part (v * d) d (now (values .exit)))) ⌝ }
 {
     let target = v * d;
     let mut c = first;
@@ -82,8 +87,8 @@ fn orthogonalise_once(values: &mut [f64], v: usize, d: usize, first: f64, last: 
 // The direction at v * d, cleared twice of each earlier one. Answers its squared length.
 fn orthogonalise(values: &mut [f64], v: usize, d: usize) -> f64
     requires { ⌜ v * d + d ≤ length (now values) ⌝ }
-    ensures { λ r. ⌜ (now (values .exit) ≡ sets (now (values .entry)) (v * d) (Spec.cleared d v (now (values .entry))))
-        × (r ≡ Spec.squared-length (Spec.cleared d v (now (values .entry)))) ⌝ }
+    ensures { λ r. ⌜ (now (values .exit) ≡ sets (now (values .entry)) (v * d) (Spec.cleared euclidean d v (now (values .entry))))
+        × (r ≡ squared-length (euclidean .start) (Spec.cleared euclidean d v (now (values .entry)))) ⌝ }
 {
     let target = v * d;
     let e = target + d;
@@ -109,8 +114,8 @@ fn divide(s: &mut [f64], by: f64)
 
 // A cleared direction is divided by its length, or it collapsed.
 fn normalise(s: &mut [f64], squared: f64) -> Normalised
-    requires { ⌜ squared ≡ Spec.squared-length (now s) ⌝ }
-    ensures { λ r. ⌜ (r ≡ Spec.normalised (now (s .entry))) × (now (s .exit) ≡ Spec.divided (now (s .entry))) ⌝ }
+    requires { ⌜ squared ≡ squared-length (euclidean .start) (now s) ⌝ }
+    ensures { λ r. ⌜ (r ≡ Spec.normalised euclidean (now (s .entry))) × (now (s .exit) ≡ Spec.divided euclidean (now (s .entry))) ⌝ }
 {
     let norm = sqrt::sqrt(squared);
     if norm <= f64::from_bits(floats::LEAST_NORMAL_BITS) {
@@ -129,8 +134,8 @@ fn normalise(s: &mut [f64], squared: f64) -> Normalised
 // Direction v, in full: cleared twice, then divided.
 fn orthonormalise_at(tangents: &mut [f64], v: usize, d: usize) -> Normalised
     requires { ⌜ v * d + d ≤ length (now tangents) ⌝ }
-    ensures { λ r. ⌜ (r ≡ Spec.normalised (Spec.cleared d v (now (tangents .entry))))
-        × (now (tangents .exit) ≡ sets (now (tangents .entry)) (v * d) (Spec.divided (Spec.cleared d v (now (tangents .entry))))) ⌝ }
+    ensures { λ r. ⌜ (r ≡ Spec.normalised euclidean (Spec.cleared euclidean d v (now (tangents .entry))))
+        × (now (tangents .exit) ≡ sets (now (tangents .entry)) (v * d) (Spec.divided euclidean (Spec.cleared euclidean d v (now (tangents .entry))))) ⌝ }
 {
     let squared = orthogonalise(tangents, v, d);
     let a = v * d;
@@ -141,7 +146,7 @@ fn orthonormalise_at(tangents: &mut [f64], v: usize, d: usize) -> Normalised
 // Orthonormalises the directions of `dimension` entries that lie one after the other in `tangents`. `norms` takes their
 // logarithms, then their squared lengths.
 pub fn modified_gram_schmidt(tangents: &mut [f64], dimension: usize, norms: &mut [f64]) -> Outcome
-    ensures { λ r. ⌜ Spec.observed r (now (tangents .exit)) (now (norms .exit)) ≡ Spec.orthonormalised (now (tangents .entry)) dimension (now (norms .entry)) ⌝ }
+    ensures { λ r. ⌜ Spec.observed r (now (tangents .exit)) (now (norms .exit)) ≡ Spec.orthonormalised euclidean (now (tangents .entry)) dimension (now (norms .entry)) ⌝ }
 {
     if dimension == 0 {
         return Outcome::Refused(LyapunovError::ZeroDimension);

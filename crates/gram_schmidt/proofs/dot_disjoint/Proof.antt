@@ -7,12 +7,12 @@ use lib.ListN.{length, drop}
 use lib.Ieee.{ofBits}
 use Rattle.gram_schmidt.proofs.dot_disjoint.Statement.{statement}
 use Rattle.gram_schmidt.proofs.dot_disjoint.Tie as tie
-use Rattle.floats.specs.Arithmetic.{zero⁺}
+use Rattle.gram_schmidt.specs.GramSchmidt.{euclidean}
 use Rattle.floats.specs.Vector.{dot-from}
 use Rattle.floats.proofs.Vector.{dot-next, dot-end}
 
 abbrev Inv-loop : tie.InvT-loop
-Inv-loop a b s₀ i₀ s i = (i ≤ length a) × (dot-from zero⁺ a b ≡ dot-from s (drop i a) (drop i b))
+Inv-loop a b s₀ i₀ s i = (i ≤ length a) × (dot-from (euclidean .start) a b ≡ dot-from s (drop i a) (drop i b))
 
 abbrev μ-loop : tie.MeasureT-loop
 μ-loop a b s₀ i₀ s i = length a - i

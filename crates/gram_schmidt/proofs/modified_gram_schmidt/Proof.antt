@@ -5,29 +5,29 @@ use native.Mathlib.Nat.{div-mul-le-self}
 use Prim.Native.Nat.{_≤_, _-_, _/_}
 use mathlib.Core.Path.{_≡_, refl, sym, _∙_}
 use lib.ListN.{length, length-set}
-use Rattle.gram_schmidt.specs.GramSchmidt.{orthonormalised}
+use Rattle.gram_schmidt.specs.GramSchmidt.{euclidean, orthonormalised}
 use Rattle.gram_schmidt.proofs.Directions.{pending, pending-end, iteration-by, iteration-stop, refused-7, refused-13, begun}
 use Rattle.gram_schmidt.proofs.modified_gram_schmidt.Statement.{statement}
 use Rattle.gram_schmidt.proofs.modified_gram_schmidt.Tie as tie
 use Rattle.floats.proofs.Vector.{vector-fits}
 
 abbrev Inv-loop : tie.InvT-loop
-Inv-loop tangents₀ dimension norms₀ count v₀ tangents norms v = (v ≤ count) × (length tangents ≡ length tangents₀) × (length norms ≡ length norms₀) × (pending dimension count tangents norms v ≡ orthonormalised tangents₀ dimension norms₀)
+Inv-loop tangents₀ dimension norms₀ count v₀ tangents norms v = (v ≤ count) × (length tangents ≡ length tangents₀) × (length norms ≡ length norms₀) × (pending euclidean dimension count tangents norms v ≡ orthonormalised euclidean tangents₀ dimension norms₀)
 
 abbrev μ-loop : tie.MeasureT-loop
 μ-loop tangents₀ dimension norms₀ count v₀ tangents norms v = count - v
 
 returns : tie.Need-returns Inv-loop μ-loop
-returns c = let a = c .before .before .before .args in refused-7 (a .tangents .now) (a .dimension) (a .norms .now) (c .if1 .taken)
+returns c = let a = c .before .before .before .args in refused-7 euclidean (a .tangents .now) (a .dimension) (a .norms .now) (c .if1 .taken)
 
 div-count : tie.Need-div-count Inv-loop μ-loop
 div-count c = search needs
 
 returns-2 : tie.Need-returns-2 Inv-loop μ-loop
-returns-2 c = let a = c .before .before .before .before .args in refused-13 (a .tangents .now) (a .dimension) (a .norms .now) (c .before .if1 .left) (c .if2 .taken)
+returns-2 c = let a = c .before .before .before .before .args in refused-13 euclidean (a .tangents .now) (a .dimension) (a .norms .now) (c .before .if1 .left) (c .if2 .taken)
 
 loop-holds : tie.Need-loop-holds Inv-loop μ-loop
-loop-holds c = let a = c .before .before .before .before .args in (omega arith, refl, refl, begun (a .tangents .now) (a .dimension) (a .norms .now) (c .before .if1 .left) (c .if2 .left))
+loop-holds c = let a = c .before .before .before .before .args in (omega arith, refl, refl, begun euclidean (a .tangents .now) (a .dimension) (a .norms .now) (c .before .if1 .left) (c .if2 .left))
 
 orthonormalise-at-requires : tie.Need-orthonormalise-at-requires Inv-loop μ-loop
 orthonormalise-at-requires c κs =
@@ -69,8 +69,8 @@ returns-3 c =
     let l = i .before .loop in
     let o = c .before .before .before .before .orthonormalise-at in
     sym
-    (iteration-stop (a .dimension) (length (a .tangents .now) / a .dimension) (l .tangents) (l .norms) (l .v) (i .loop-test .taken) (omega (arith, div-mul-le-self (length (a .tangents .now)) (a .dimension)))
-    (o .result) (o .last .0) (o .ensures .0) (c .enum-told .given .1) (o .ensures .1))
+    (iteration-stop euclidean (a .dimension) (length (a .tangents .now) / a .dimension) (l .tangents) (l .norms) (l .v) (i .loop-test .taken) (omega (arith, div-mul-le-self (length (a .tangents .now)) (a .dimension)))
+    (o .last .0) (sym (o .ensures .0) ∙ c .enum-told .given .1) (o .ensures .1))
     ∙ l .inv .3
 
 add-v : tie.Need-add-v Inv-loop μ-loop
@@ -89,8 +89,8 @@ loop-again c =
       o .kept .0 ∙ l .inv .1,
       simp length-set (l .inv .2),
       sym
-          (iteration-by (a .dimension) (length (a .tangents .now) / a .dimension) (l .tangents) (l .norms) (l .v) (i .loop-test .taken) (omega (arith, div-mul-le-self (length (a .tangents .now)) (a .dimension)))
-          (o .result) (c .before .log .given .0 .0) (c .before .log .given .0 .1 .0) (o .last .0) (o .ensures .0) (c .before .log .given .1) (o .ensures .1))
+          (iteration-by euclidean (a .dimension) (length (a .tangents .now) / a .dimension) (l .tangents) (l .norms) (l .v) (i .loop-test .taken) (omega (arith, div-mul-le-self (length (a .tangents .now)) (a .dimension)))
+          (c .before .log .given .0 .0) (c .before .log .given .0 .1 .0) (o .last .0) (sym (o .ensures .0) ∙ c .before .log .given .1) (o .ensures .1))
           ∙ l .inv .3,
     )
 
@@ -104,7 +104,7 @@ returns-4 : tie.Need-returns-4 Inv-loop μ-loop
 returns-4 c =
     let a = c .before .before .before .before .before .before .args in
     let l = c .before .loop in
-    sym (pending-end (a .dimension) (length (a .tangents .now) / a .dimension) (l .tangents) (l .norms) (l .v) (c .loop-test .left)) ∙ l .inv .3
+    sym (pending-end euclidean (a .dimension) (length (a .tangents .now) / a .dimension) (l .tangents) (l .norms) (l .v) (c .loop-test .left)) ∙ l .inv .3
 
 pub modified-gram-schmidt-spec : {M : Type 1} → statement M
 modified-gram-schmidt-spec =

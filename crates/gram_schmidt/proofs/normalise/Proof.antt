@@ -1,5 +1,8 @@
 -- `gram_schmidt::normalise` meets its contract, by what the two tests tell of the length.
+use mathlib.Core.Path.{ap, _∙_}
 use lib.Ieee.{nanBits, ofBits}
+use Rattle.sqrt.specs.SquareRoot.{root}
+use Rattle.gram_schmidt.specs.GramSchmidt.{euclidean}
 use Rattle.gram_schmidt.proofs.Collapse.{low, high, held, normal-held, norm-collapsed, norm-divided, log-value, log-never}
 use borrow.Author.Needs.{needs}
 use Rattle.gram_schmidt.proofs.normalise.Statement.{statement}
@@ -15,8 +18,7 @@ float-from-bits-if1 c = tt
 returns : tie.Need-returns
 unfolding ofBits
 returns c =
-    let a = c .before .before .before in
-    norm-collapsed (a .args .s .now) (a .args .squared) (c .before .sqrt .result) (a .pre) (c .before .sqrt .ensures) (low _ (c .if1 .taken))
+    norm-collapsed euclidean _ _ (c .before .sqrt .ensures ∙ ap root (c .before .before .before .pre)) (low _ (c .if1 .taken))
 
 float-from-bits-if2 : tie.Need-float-from-bits-if2
 unfolding nanBits
@@ -49,15 +51,13 @@ returns-3 c =
     let m = c .before .before .before .before .before in
     let b = m .before .before .before in
     let r = b .before .before in
-    let a = r .before .before in
-    norm-divided (a .args .s .now) (a .args .squared) (r .sqrt .result) (m .l .given .0 .0) (c .before .before .divide .last .0) (a .pre) (r .sqrt .ensures) (held _ (b .before .if1 .left) (b .if2 .taken))
+    norm-divided euclidean _ _ (r .sqrt .ensures ∙ ap root (r .before .before .pre)) _ _ _ (held _ (b .before .if1 .left) (b .if2 .taken)) (r .before .before .pre)
     (log-value _ _ _ (normal-held _ (b .before .if1 .left) (b .if2 .taken)) (m .before .before .ln .ensures) (m .l .given .1)) (c .before .before .divide .ensures)
 
 returns-4 : tie.Need-returns-4
 unfolding ofBits
 returns-4 c =
-    let a = c .before .before .before .before in
-    norm-collapsed (a .args .s .now) (a .args .squared) (c .before .before .sqrt .result) (a .pre) (c .before .before .sqrt .ensures) (high _ (c .if2 .left))
+    norm-collapsed euclidean _ _ (c .before .before .sqrt .ensures ∙ ap root (c .before .before .before .before .pre)) (high _ (c .if2 .left))
 
 pub normalise-spec : {M : Type 1} → statement M
 normalise-spec =

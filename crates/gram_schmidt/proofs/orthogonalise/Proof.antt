@@ -6,7 +6,8 @@ use Prim.Native.Nat.{_+_, _-_, _*_}
 use mathlib.Core.Path.{sym, _∙_}
 use lib.Seq.{length-take-le}
 use Rattle.floats.proofs.Sets.{part-length}
-use Rattle.gram_schmidt.proofs.Directions.{cleared-first, cleared-twice}
+use Rattle.gram_schmidt.specs.GramSchmidt.{euclidean}
+use Rattle.gram_schmidt.proofs.Directions.{cleared-first, cleared-again}
 use Rattle.gram_schmidt.proofs.orthogonalise.Statement.{statement}
 use Rattle.gram_schmidt.proofs.orthogonalise.Tie as tie
 
@@ -42,7 +43,7 @@ same-length c = search needs
 returns : tie.Need-returns
 returns c =
     let a = c .before .before .before .before .before .before .args in
-    cleared-first (a .d) (a .v) (a .values .now) _ (c .if1 .taken) (omega arith) (c .before .dot-disjoint .ensures)
+    cleared-first euclidean (a .d) (a .v) (a .values .now) (omega arith) _ (c .if1 .taken) (c .before .dot-disjoint .ensures)
 
 orthogonalise-once-requires : tie.Need-orthogonalise-once-requires
 orthogonalise-once-requires c κs = (omega arith, omega arith, omega arith, c .before .before .dot-disjoint .ensures ∙ rw add-sub-cancel-left)
@@ -57,7 +58,7 @@ returns-2 : tie.Need-returns-2
 returns-2 c =
     let o = c .before .before .before .before .before .before in
     let a = o .before .before .before .before .before .before .before .before .args in
-    cleared-twice (a .d) (a .v) (a .values .now) (o .orthogonalise-once .last .0) (c .before .before .orthogonalise-once2 .last .0) _ (omega arith) (o .orthogonalise-once .ensures .0) (c .before .before .orthogonalise-once2 .ensures .0) (c .before .before .orthogonalise-once2 .ensures .1)
+    cleared-again euclidean (a .d) (a .v) (a .values .now) (omega arith) (o .orthogonalise-once .last .0) (c .before .before .orthogonalise-once2 .last .0) _ (o .orthogonalise-once .ensures .0) (c .before .before .orthogonalise-once2 .ensures .0) (c .before .before .orthogonalise-once2 .ensures .1)
 
 pub orthogonalise-spec : {M : Type 1} → statement M
 orthogonalise-spec =

@@ -5,7 +5,7 @@ use native.Mathlib.Numerals.{add-one}
 use Prim.Native.Nat.{_≤_, _<_, _+_, _-_, _*_}
 use mathlib.Core.Path.{_≡_, refl, sym, _∙_}
 use lib.ListN.{length}
-use Rattle.floats.specs.Arithmetic.{zero⁺}
+use Rattle.gram_schmidt.specs.GramSchmidt.{euclidean}
 use Rattle.floats.specs.Vector.{dot-from, part}
 use Rattle.floats.proofs.Vector.{vector-fits}
 use Rattle.gram_schmidt.proofs.Loops.{orthogonalising, orthogonalise-start, orthogonalise-iteration, orthogonalise-end}
@@ -14,7 +14,7 @@ use Rattle.gram_schmidt.proofs.orthogonalise_once.Tie as tie
 
 abbrev Inv-loop : tie.InvT-loop
 Inv-loop values₀ v d first last target c₀ p₀ values c p =
-    (p < v) × (length values ≡ length values₀) × (orthogonalising d v values₀ 0 ≡ orthogonalising d v values p) × (c ≡ dot-from zero⁺ (part (p * d) d values) (part (v * d) d values))
+    (p < v) × (length values ≡ length values₀) × (orthogonalising (euclidean .start) d v values₀ 0 ≡ orthogonalising (euclidean .start) d v values p) × (c ≡ dot-from (euclidean .start) (part (p * d) d values) (part (v * d) d values))
 
 abbrev μ-loop : tie.MeasureT-loop
 μ-loop values₀ v d first last target c₀ p₀ values c p = v - p
@@ -55,7 +55,7 @@ loop-again c =
     let e : (l .p + 1) * ar .d ≡ l .p * ar .d + ar .d = rw (add-one, suc-mul) in (
       omega arith,
       s .kept .0 ∙ l .inv .1,
-      l .inv .2 ∙ orthogonalise-iteration (ar .d) (ar .v) (l .values) (l .p) (l .c) (s .last .0) (omega arith) (omega arith) (l .inv .3) (s .ensures .0),
+      l .inv .2 ∙ orthogonalise-iteration (euclidean .start) (ar .d) (ar .v) (l .values) (l .p) (l .c) (s .last .0) (omega arith) (omega arith) (l .inv .3) (s .ensures .0),
       s .ensures .1 ∙ rw e,
     )
 
@@ -74,9 +74,9 @@ returns c =
     let ar = c .before .before .before .before .before .before .before .args in
     let s = c .before .before .subtract-projection2 in
     let q = s .kept .0 ∙ l .inv .1 in (
-      sym (orthogonalise-end (ar .d) (ar .v) (s .last .0) (l .p + 1) (omega arith) (omega arith))
-          ∙ sym (l .inv .2 ∙ orthogonalise-iteration (ar .d) (ar .v) (l .values) (l .p) (l .c) (s .last .0) (omega arith) (omega arith) (l .inv .3) (s .ensures .0))
-          ∙ orthogonalise-start (ar .d) (ar .v) _,
+      sym (orthogonalise-end (euclidean .start) (ar .d) (ar .v) (s .last .0) (l .p + 1) (omega arith) (omega arith))
+          ∙ sym (l .inv .2 ∙ orthogonalise-iteration (euclidean .start) (ar .d) (ar .v) (l .values) (l .p) (l .c) (s .last .0) (omega arith) (omega arith) (l .inv .3) (s .ensures .0))
+          ∙ orthogonalise-start (euclidean .start) (ar .d) (ar .v) _,
       s .ensures .1,
     )
 

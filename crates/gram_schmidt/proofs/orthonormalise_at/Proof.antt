@@ -1,7 +1,7 @@
 -- `gram_schmidt::orthonormalise_at` meets its contract, by what the two calls ensure.
 use native.Mathlib.Nat.{add-sub-cancel-left}
 use mathlib.Core.Path.{sym, ap, _∙_}
-use Rattle.gram_schmidt.specs.GramSchmidt.{squared-length}
+use Rattle.gram_schmidt.specs.GramSchmidt.{squared-length, euclidean}
 use Rattle.gram_schmidt.proofs.Directions.{cleared-part, direction}
 use borrow.Author.Needs.{needs}
 use Rattle.gram_schmidt.proofs.orthonormalise_at.Statement.{statement}
@@ -32,7 +32,7 @@ normalise-requires : tie.Need-normalise-requires
 normalise-requires c κs =
     let o = c .before .before .before .orthogonalise in
     let a = c .before .before .before .before .before .before .args in
-    o .ensures .1 ∙ ap squared-length (sym (rw add-sub-cancel-left (cleared-part (a .d) (a .v) (a .tangents .now) (o .last .0) (c .before .before .before .before .before .before .pre) (o .ensures .0))))
+    o .ensures .1 ∙ ap (squared-length (euclidean .start)) (sym (rw add-sub-cancel-left (cleared-part euclidean (a .d) (a .v) (a .tangents .now) (c .before .before .before .before .before .before .pre) (o .last .0) (o .ensures .0))))
 
 same-length : tie.Need-same-length
 same-length c = search needs
@@ -41,7 +41,7 @@ returns : tie.Need-returns
 returns c =
     let b = c .before .before .before .before .before .before in
     let s = b .before .before .before in
-    direction (s .args .d) (s .args .v) (s .args .tangents .now) (b .orthogonalise .last .0) (c .before .before .normalise .last .0) _ (s .pre) (b .orthogonalise .ensures .0) (c .before .before .normalise .ensures)
+    direction euclidean (s .args .d) (s .args .v) (s .args .tangents .now) (s .pre) (b .orthogonalise .last .0) (c .before .before .normalise .last .0) _ (b .orthogonalise .ensures .0) (c .before .before .normalise .ensures)
 
 pub orthonormalise-at-spec : {M : Type 1} → statement M
 orthonormalise-at-spec =

@@ -4,16 +4,16 @@ use Prim.Native.Nat.{_≤_, _+_, _-_}
 use mathlib.Core.Path.{_≡_, refl, sym, ap, _∙_}
 use lib.ListN.{length, length-set}
 use lib.Ieee.{ofBits}
-use Rattle.floats.specs.Arithmetic.{zero⁺}
 use Rattle.floats.specs.Vector.{dot-from, part}
-use Rattle.gram_schmidt.proofs.Loops.{entry, subtracting, subtract-start, subtract-next, subtract-end, summing, sum-start, sum-next, sum-end}
+use Rattle.gram_schmidt.specs.GramSchmidt.{euclidean}
+use Rattle.gram_schmidt.proofs.Loops.{entry, subtracting, subtract-start, subtract-next, subtract-end, summing, summing-start, summing-next, summing-end}
 use Rattle.gram_schmidt.proofs.subtract_projection.Statement.{statement}
 use Rattle.gram_schmidt.proofs.subtract_projection.Tie as tie
 
 abbrev Inv-loop : tie.InvT-loop
 Inv-loop values₀ basis next target d p product₀ i₀ values product i =
     (i ≤ d) × (length values ≡ length values₀) × (subtracting p basis target d values₀ 0 ≡ subtracting p basis target d values i)
-    × (summing next target d (subtracting p basis target d values₀ 0) zero⁺ 0 ≡ summing next target d (subtracting p basis target d values₀ 0) product i)
+    × (summing next target d (subtracting p basis target d values₀ 0) (euclidean .start) 0 ≡ summing next target d (subtracting p basis target d values₀ 0) product i)
 
 abbrev μ-loop : tie.MeasureT-loop
 μ-loop values₀ basis next target d p product₀ i₀ values product i = d - i
@@ -75,7 +75,7 @@ loop-again c =
       omega arith,
       length-set (l .values) _ _ ∙ l .inv .1,
       done,
-      l .inv .3 ∙ sum-next (ar .p) (ar .next) (ar .basis) (ar .target) (ar .d) (l .values) _ (l .product) (l .i) (omega arith) (omega arith) (omega arith) done,
+      l .inv .3 ∙ summing-next (ar .p) (ar .next) (ar .basis) (ar .target) (ar .d) (l .values) _ (l .product) (l .i) (omega arith) (omega arith) (omega arith) done,
     )
 
 same-length : tie.Need-same-length Inv-loop μ-loop
@@ -87,7 +87,7 @@ returns c =
     let ar = c .before .before .args in
     let done : subtracting (ar .p) (ar .basis) (ar .target) (ar .d) (ar .values .now) 0 ≡ l .values = l .inv .2 ∙ subtract-end (ar .p) (ar .basis) (ar .target) (ar .d) (l .values) (l .i) (omega arith) (omega arith) in (
       sym done ∙ subtract-start (ar .p) (ar .basis) (ar .target) (ar .d) _,
-      sym (sum-end (ar .next) (ar .target) (ar .d) _ (l .product) (l .i) (omega arith)) ∙ sym (l .inv .3) ∙ sum-start (ar .next) (ar .target) (ar .d) _ zero⁺ ∙ ap (λ zs. dot-from zero⁺ (part (ar .next) (ar .d) zs) (part (ar .target) (ar .d) zs)) done,
+      sym (summing-end (ar .next) (ar .target) (ar .d) _ (l .product) (l .i) (omega arith)) ∙ sym (l .inv .3) ∙ summing-start (ar .next) (ar .target) (ar .d) _ (euclidean .start) ∙ ap (λ zs. dot-from (euclidean .start) (part (ar .next) (ar .d) zs) (part (ar .target) (ar .d) zs)) done,
     )
 
 pub subtract-projection-spec : {M : Type 1} → statement M
