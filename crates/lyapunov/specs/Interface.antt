@@ -1,4 +1,4 @@
--- Numbers and slices as C hands them over: a system by its number, a value that is written only where there is one, and what a run returns. Definitions only.
+-- Numbers and slices as C hands them over: a system by its number, a value that is written only where there is one, and what the orthonormaliser and a run return. Definitions only.
 use Prim.Native.Nat.{ℕ}
 use mathlib.Core.Path.{_≡_}
 use mathlib.Core.Bool.{cond}
@@ -6,6 +6,7 @@ use mathlib.Core.List.{List, [], _∷_}
 use lib.Dec.{eqb}
 use lib.Ieee.{Float}
 use Rattle.error.specs.Refusal.{Answer, value, refused, number-of, place-of}
+use Rattle.gram_schmidt.specs.GramSchmidt.{Orthonormalised}
 use Rattle.system.specs.declared.System.{System}
 use Rattle.system.specs.declared.System.the-variants.{Lorenz, Rossler, VanDerPol, Linear}
 use Rattle.benettin.specs.Estimate.{Input}
@@ -23,6 +24,13 @@ system kind p₀ p₁ p₂ d =
     (cond (eqb kind 1) (Rossler p₀ p₁ p₂)
     (cond (eqb kind 2) (VanDerPol p₀)
     (cond (eqb kind 3) (Linear d) (Linear 0))))
+
+-- what a call of the orthonormaliser returns and leaves
+pub record OrthonormaliserReturns (number place : ℕ) (tangents norms : List Float) (x : Orthonormalised) : Type 0 where
+  pub number-is : number ≡ number-of (x .refusal)
+  pub place-is : place ≡ place-of (x .refusal)
+  pub tangents-are : tangents ≡ x .tangents
+  pub norms-are : norms ≡ x .norms
 
 -- the nineteen counts: place, finished measured windows, steps, and the sixteen faint counts
 abbrev pub counts : Estimated → List ℕ

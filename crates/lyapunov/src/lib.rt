@@ -11,7 +11,7 @@ ghost use Rattle.sqrt.specs.SquareRoot.{root};
 ghost use Rattle.ln.specs.Logarithm.{logarithm};
 ghost use Rattle.splitmix64.specs.Mix as Mix;
 ghost use Rattle.error.specs.Refusal.{number-of, place-of, reported, refusal-in};
-ghost use Rattle.gram_schmidt.specs.GramSchmidt.{orthonormalised};
+ghost use Rattle.gram_schmidt.specs.GramSchmidt.{euclidean, orthonormalised};
 ghost use Rattle.rk4.specs.Step.{stepped};
 ghost use Rattle.floats.specs.Arithmetic.{zero⁺};
 ghost use Rattle.benettin.specs.Estimate.{configured, default-seed, input, settings};
@@ -163,10 +163,7 @@ pub extern "C" fn lyapunov_modified_gram_schmidt(
     norms: &mut [f64],
     place: &mut u64,
 ) -> u64
-    ensures { λ r. ⌜ (r ≡ number-of (orthonormalised (now (tangents .entry)) dimension (now (norms .entry)) .refusal))
-        × (now (place .exit) ≡ place-of (orthonormalised (now (tangents .entry)) dimension (now (norms .entry)) .refusal))
-        × (now (tangents .exit) ≡ orthonormalised (now (tangents .entry)) dimension (now (norms .entry)) .tangents)
-        × (now (norms .exit) ≡ orthonormalised (now (tangents .entry)) dimension (now (norms .entry)) .norms) ⌝ }
+    ensures { λ r. ⌜ Interface.OrthonormaliserReturns r (now (place .exit)) (now (tangents .exit)) (now (norms .exit)) (orthonormalised euclidean (now (tangents .entry)) dimension (now (norms .entry))) ⌝ }
 {
     let outcome = gram_schmidt::modified_gram_schmidt(tangents, dimension, norms);
     report(outcome, place)

@@ -22,7 +22,12 @@ returns : tie.Need-returns
 returns c =
     let e = c .before .before .before .before .before .before .modified-gram-schmidt .ensures in
     let r = c .report .ensures in
-    (r .0 ∙ ap (λ (y : Orthonormalised). number-of (y .refusal)) e, r .1 ∙ ap (λ (y : Orthonormalised). place-of (y .refusal)) e, ap (λ (y : Orthonormalised). y .tangents) e, ap (λ (y : Orthonormalised). y .norms) e)
+    record {
+      number-is = r .0 ∙ ap (λ (y : Orthonormalised). number-of (y .refusal)) e;
+      place-is = r .1 ∙ ap (λ (y : Orthonormalised). place-of (y .refusal)) e;
+      tangents-are = ap (λ (y : Orthonormalised). y .tangents) e;
+      norms-are = ap (λ (y : Orthonormalised). y .norms) e;
+    }
 
 pub lyapunov-modified-gram-schmidt-spec : {M : Type 1} → statement M
 lyapunov-modified-gram-schmidt-spec =
