@@ -1,23 +1,23 @@
 -- A collapse means a squared length of 0 or one that is not finite: of a sum of squares as the code makes it, the test on the root is that test on the sum.
-use Prim.Native.Nat.{ℕ, zero, suc, _+_, _*_, _<_}
+use Prim.Native.Nat.{ℕ, zero, suc, _+_, _-_, _*_, _<_}
 use native.Mathlib.Nat.{zero-mul, mul-pos}
 use native.Mathlib.Omega.{arith}
 use mathlib.Core.Path.{_≡_, refl}
-use mathlib.Core.Bool.{Bool, true, false, not, _||_, true≢false}
+use mathlib.Core.Bool.{Bool, true, false, not, cond, _||_, true≢false}
 use mathlib.Core.List.{List, [], _∷_}
 use borrow.Author.Tests.{ltb-true, le-ltb, lt-ltb, ne-eqb}
-use lib.Dec.{T}
-use lib.IntN.{ℤ, negsuc}
+use lib.Dec.{T, ltb}
+use lib.IntN.{ℤ, pos, negsuc}
 use lib.Ieee.{Float, nan, inf, fin, binary64, up, down, fits, below, level, lt, eq, le, add, mul, sum, round}
 use lib.Ieee.Bits.{is-true}
-use lib.Ieee.Fits.{up-pos, down-pos, add-fits, round-fits}
+use lib.Ieee.Fits.{up-pos, down-pos, add-fits}
 use Rattle.sqrt.specs.SquareRoot.{root}
 use Rattle.sqrt.proofs.Positive.{root-large}
 use Rattle.floats.proofs.Ordinary.{ordinary}
-use Rattle.floats.proofs.Sign.{Sign, round-sign}
+use Rattle.floats.proofs.Sign.{Sign, either, round-sign}
 use Rattle.floats.proofs.Zero.{refuted, zero-equal, nonzero-differs}
 use Rattle.gram_schmidt.specs.Orthonormalise.{collapsed}
-use Rattle.gram_schmidt.specs.GramSchmidt.{euclidean}
+use Rattle.gram_schmidt.specs.GramSchmidt.{squared-length}
 use Rattle.gram_schmidt.specs.Collapse.{degenerate, CollapseMeaning}
 use Rattle.floats.specs.Arithmetic.{zero⁺, least-normal}
 use Rattle.floats.specs.Vector.{dot-from}
@@ -61,6 +61,18 @@ add-unsigned (fin true m e) (fin t n d) p q = absurd p
 add-unsigned (fin false m e) (fin true n d) p q = absurd q
 add-unsigned (fin false m e) (fin false n d) p q = round-unsigned (m * up e * down d + n * up d * down e) (down e * down d)
 
+-- a zero of either sign added to
+zero-unsigned : (s : Bool) (y : Float) → T (unsigned y) → T (unsigned (add binary64 (fin s zero (pos 0)) y))
+unfolding add sum
+zero-unsigned false y q = add-unsigned (fin false zero (pos 0)) y tt q
+zero-unsigned true nan q = tt
+zero-unsigned true (inf t) q = q
+zero-unsigned true (fin true n d) q = absurd q
+zero-unsigned true (fin false n d) q = go (zero * up (pos 0) * down d) (n * up d * down (pos 0)) (down (pos 0) * down d) (zero-mul (down d))
+  where
+    go : (a b c : ℕ) → a ≡ 0 → T (unsigned (cond (ltb a b) (round binary64 false (b - a) c) (round binary64 (ltb b a) (a - b) c)))
+    go a b c e = rw (le-ltb b a (omega arith)) (either (λ x. T (unsigned x)) (ltb a b) _ _ (round-unsigned (b - a) c) (round-unsigned (a - b) c))
+
 sum-unsigned : (s : Float) (w : List Float) → T (unsigned s) → T (fits binary64 s) → T (unsigned (dot-from s w w)) × T (fits binary64 (dot-from s w w))
 unfolding dot-from
 sum-unsigned s [] p f = (p, f)
@@ -78,12 +90,17 @@ above nan h f = absurd h
 above (inf s) h f = absurd f
 above (fin s m e) h f = strict s (m * up e * down (negsuc 1021)) (1 * up (negsuc 1021) * down e) (is-true _ h)
 
-zero-low : (e : ℤ) → le (fin false zero e) least-normal ≡ true
+zero-low : (s : Bool) (e : ℤ) → le (fin s zero e) least-normal ≡ true
 unfolding lt eq le
-zero-low e =
-    let z : zero * up e * down (negsuc 1021) ≡ 0 = rw (zero-mul, zero-mul) in
-    let p : 0 < 1 * up (negsuc 1021) * down e = mul-pos {m = 1 * up (negsuc 1021)} (mul-pos {m = 1} (omega arith) (up-pos (negsuc 1021))) (down-pos e) in
-    rw (z, lt-ltb 0 (1 * up (negsuc 1021) * down e) p)
+zero-low s e = go s (zero * up e * down (negsuc 1021)) (1 * up (negsuc 1021) * down e) (rw (zero-mul, zero-mul)) (mul-pos {m = 1 * up (negsuc 1021)} (mul-pos {m = 1} (omega arith) (up-pos (negsuc 1021))) (down-pos e))
+  where
+    go : (s : Bool) (a b : ℕ) → a ≡ 0 → 0 < b → (below s a false b || level s a false b) ≡ true
+    go true a b z p = rw (lt-ltb 0 (a + b) (omega arith))
+    go false a b z p = rw (lt-ltb a b (omega arith))
+
+of-zero : (s : Bool) (e : ℤ) → collapsed (root (fin s zero e)) ≡ degenerate (fin s zero e)
+unfolding collapsed root
+of-zero s e = rw (zero-low s e, zero-equal s e)
 
 of-root : (q : Float) → T (unsigned q) → T (fits binary64 q) → collapsed (root q) ≡ degenerate q
 unfolding collapsed root
@@ -91,9 +108,17 @@ of-root nan p f = refl
 of-root (inf true) p f = absurd p
 of-root (inf false) p f = refl
 of-root (fin true m e) p f = absurd p
-of-root (fin false zero e) p f = rw (zero-low e, zero-equal false e)
+of-root (fin false zero e) p f = of-zero false e
 of-root (fin false (suc m) e) p f = let r = root-large f (ordinary m e) in rw (refuted (eq (fin false (suc m) e) zero⁺) (nonzero-differs false m e)) (above (root (fin false (suc m) e)) (r .0) (r .1))
 
+-- whichever zero the sum starts from
+from-zero : (s : Bool) (w : List Float) → let q = squared-length (fin s zero (pos 0)) w in collapsed (root q) ≡ degenerate q
+unfolding dot-from
+from-zero s [] = of-zero s (pos 0)
+from-zero s (x ∷ w) =
+    let y = mul binary64 x x in
+    let h = sum-unsigned (add binary64 (fin s zero (pos 0)) y) w (zero-unsigned s y (square-unsigned x)) (add-fits binary64 (fin s zero (pos 0)) y) in
+    of-root (squared-length (fin s zero (pos 0)) (x ∷ w)) (h .0) (h .1)
+
 pub collapse-is : CollapseMeaning
-unfolding round
-collapse-is w = let h = sum-unsigned zero⁺ w tt (round-fits binary64 false 0 1) in of-root (euclidean .report w) (h .0) (h .1)
+collapse-is w = from-zero _ w
