@@ -1,9 +1,9 @@
 -- One direction of the slice in full, and the loop over them, for any lengths.
-use Prim.Native.Nat.{ℕ, zero, suc, _+_, _-_, _*_, _/_, _≤_, _<_}
+use Prim.Native.Nat.{ℕ, suc, _+_, _-_, _*_, _/_, _≤_, _<_}
 use native.Mathlib.Nat.{suc-mul, zero-mul, sub-zero, add-zero, add-mul, add-sub-cancel-left}
 use native.Mathlib.Numerals.{add-one}
 use native.Mathlib.Omega.{arith}
-use mathlib.Core.Path.{_≡_, refl, sym, ap, ap₂, _∙_}
+use mathlib.Core.Path.{_≡_, refl, sym, ap, _∙_}
 use mathlib.Core.Bool.{Bool, true, false, cond}
 use mathlib.Core.List.{List, [], _∷_, _++_, map, append-assoc}
 use mathlib.Core.Option.{Option, none, some, Option·map}
@@ -12,7 +12,7 @@ use lib.Seq.{sets, sets-eq, length-sets, drop-drop}
 use lib.Ieee.{Float}
 use borrow.Author.Tests.{eq-eqb, ne-eqb, lt-ltb, le-ltb}
 use borrow.Rule.Slice.PartMut.{putMid}
-use Rattle.gram_schmidt.specs.Orthonormalise.{Lengths, Basis, orthonormalise, with-direction, orthogonalise, orthogonalise-twice, collapsed}
+use Rattle.gram_schmidt.specs.Orthonormalise.{Lengths, Basis, orthonormalise, with-direction, orthogonalise, collapsed}
 use Rattle.gram_schmidt.specs.GramSchmidt.{squared-length, cleared, normalised, divided, Orthonormalised, holds, collapse-refusal, stored, orthonormalised}
 use Rattle.gram_schmidt.specs.declared.Normalised.{Normalised}
 use Rattle.gram_schmidt.specs.declared.Normalised.the-variants.{By, Collapsed}
@@ -83,25 +83,6 @@ module _ (L : Lengths) (d v : ℕ) (xs : List Float) (g : v * d + d ≤ length x
       let n : length (divided L w) ≡ d = chosen-length (collapsed (L .norm w)) w (L .norm w) ∙ cleared-length in
       (h .0 ∙ ap (normalised L) p, rw (k, q, u) (put-back xs (v * d) d w (divided L w) g cleared-length n))
 
--- ---- one more direction of the definition
-
--- a finished direction in front
-abbrev pub grown : List Float → Float → Float → Basis → Basis
-grown u l q b = record { directions = u ∷ b .directions; logs = l ∷ b .logs; reports = q ∷ b .reports; collapse = Option·map suc (b .collapse) }
-
-module _ (L : Lengths) (done : List (List Float)) (t : List Float) (ts : List (List Float)) where
-  abbrev pub t′ : List Float
-  t′ = orthogonalise-twice (L .start) done t
-
-  pub orthonormalise-next : collapsed (L .norm t′) ≡ false
-      → orthonormalise L done (t ∷ ts) ≡ grown (by-norm L t′) (L .log (L .norm t′)) (L .report t′) (orthonormalise L (done ++ (by-norm L t′ ∷ [])) ts)
-  unfolding orthonormalise with-direction
-  orthonormalise-next h = rw h
-
-  pub orthonormalise-stop : collapsed (L .norm t′) ≡ true → orthonormalise L done (t ∷ ts) ≡ record { directions = t′ ∷ ts; logs = []; reports = []; collapse = some zero }
-  unfolding orthonormalise with-direction
-  orthonormalise-stop h = rw h
-
 -- ---- what is left to do from direction v on, as a function of the two slices as they are
 
 abbrev pub counted : ℕ → Option ℕ → Option Refusal
@@ -122,14 +103,19 @@ counted-suc : (v : ℕ) (o : Option ℕ) → counted v (Option·map suc o) ≡ c
 counted-suc v none = refl
 counted-suc v (some i) = ap (λ (k : ℕ). some (refuse 14 k)) (omega arith)
 
-from-next : (d n : ℕ) (xs norms : List Float) (v : ℕ) (u : List Float) (l q : Float) (b : Basis) → length u ≡ d
-    → from d n xs norms v (grown u l q b) ≡ from d n (sets xs (v * d) u) (set (set norms (n + v) q) v l) (v + 1) b
-unfolding concat
-from-next d n xs norms v u l q b e =
-    let e₁ : (v + 1) * d ≡ v * d + length u = rw (add-one, suc-mul, e) in
-    let e₂ : n + (v + 1) ≡ suc (n + v) = omega arith in
-    same (counted-suc v (b .collapse)) (rw e₁ (sets-append xs (v * d) u (concat (b .directions))))
-    (rw (e₂, add-one v) (ap (λ (o : List Float). sets o (suc v) (b .logs)) (set-sets (set norms (n + v) q) (suc (n + v)) (b .reports) v l (omega arith))))
+-- the next direction is finished, or it collapsed
+module _ (d n : ℕ) (xs norms : List Float) (v : ℕ) (w : List Float) (ws : List (List Float)) (u : List Float) (l q : Float) (b : Basis) where
+  from-next : length u ≡ d → from d n xs norms v (with-direction false w ws u l q b) ≡ from d n (sets xs (v * d) u) (set (set norms (n + v) q) v l) (v + 1) b
+  unfolding with-direction concat
+  from-next e =
+      let e₁ : (v + 1) * d ≡ v * d + length u = rw (add-one, suc-mul, e) in
+      let e₂ : n + (v + 1) ≡ suc (n + v) = omega arith in
+      same (counted-suc v (b .collapse)) (rw e₁ (sets-append xs (v * d) u (concat (b .directions))))
+      (rw (e₂, add-one v) (ap (λ (o : List Float). sets o (suc v) (b .logs)) (set-sets (set norms (n + v) q) (suc (n + v)) (b .reports) v l (omega arith))))
+
+  from-collapsed : from d n xs norms v (with-direction true w ws u l q b) ≡ holds (some (refuse 14 v)) (sets (sets xs (v * d) w) (v * d + length w) (concat ws)) norms
+  unfolding with-direction concat
+  from-collapsed = same (ap (λ (k : ℕ). some (refuse 14 k)) (add-zero v)) (sets-append xs (v * d) w (concat ws)) refl
 
 module _ (L : Lengths) where
   abbrev pub pending : ℕ → ℕ → List Float → List Float → ℕ → Orthonormalised
@@ -140,21 +126,25 @@ module _ (L : Lengths) where
   pending-end d n xs norms v h = let e : n - v ≡ 0 = omega arith in rw e
 
   module _ (d n : ℕ) (xs norms : List Float) (v : ℕ) (h : v < n) (g : n * d ≤ length xs) where
+    -- the direction cleared, and divided, and those behind it
     abbrev c : List Float
     c = cleared L d v xs
 
-    -- this direction, and those behind it
+    abbrev u : List Float
+    u = by-norm L c
+
+    abbrev ws : List (List Float)
+    ws = chunks d (n - (v + 1)) (drop (v * d + d) xs)
+
     rows : n * d ≡ v * d + d + (n - (v + 1)) * d
     rows = let e : n ≡ suc v + (n - (v + 1)) = omega arith in ap (λ (k : ℕ). k * d) e ∙ rw (add-mul, suc-mul)
 
     fits : v * d + d ≤ length xs
-    fits = let r = rows in omega arith
+    fits = omega (arith, rows)
 
-    abbrev behind : List (List Float)
-    behind = chunks d (n - (v + 1)) (drop (v * d + d) xs)
-
-    pending-at : pending d n xs norms v ≡ from d n xs norms v (orthonormalise L (chunks d v xs) (part (v * d) d xs ∷ behind))
-    unfolding chunks
+    pending-at : pending d n xs norms v
+        ≡ from d n xs norms v (with-direction (collapsed (L .norm c)) c ws u (L .log (L .norm c)) (L .report c) (orthonormalise L (chunks d v xs ++ (u ∷ [])) ws))
+    unfolding chunks orthonormalise
     pending-at = let e : n - v ≡ suc (n - (v + 1)) = omega arith in rw (e, drop-drop d (v * d) xs)
 
     -- as the code has it: ys is the slice with what became of this direction, and l and q are its numbers
@@ -162,36 +152,27 @@ module _ (L : Lengths) where
         → pending d n xs norms v ≡ pending d n ys (set (set norms (n + v) q) v l) (v + 1)
     iteration-by l q ys e k =
         let s = was-divided L c l q e in
-        let u = by-norm L c in
-        let m : length u ≡ d = length-map c _ ∙ cleared-length L d v xs fits in
-        let y : ys ≡ sets xs (v * d) u = k ∙ ap (sets xs (v * d)) (s .1) in
         let f = fits in
+        let m : length u ≡ d = length-map c _ ∙ cleared-length L d v xs f in
+        let y : ys ≡ sets xs (v * d) u = k ∙ ap (sets xs (v * d)) (s .1) in
         let a : (v + 1) * d ≡ v * d + d = rw (add-one, suc-mul) in
-        rw (y, s .2, s .3)
-        (pending-at
-        ∙ ap (from d n xs norms v) (orthonormalise-next L (chunks d v xs) (part (v * d) d xs) behind (s .0))
-        ∙ from-next d n xs norms v u (L .log (L .norm c)) (L .report c) (orthonormalise L (chunks d v xs ++ (u ∷ [])) behind) m
-        ∙ ap (from d n (sets xs (v * d) u) (set (set norms (n + v) (L .report c)) v (L .log (L .norm c))) (v + 1))
-        (ap₂ (orthonormalise L)
-        (sym (rw (add-one, chunks-snoc d v (sets xs (v * d) u), chunks-sets d v 0 xs (v * d) u (omega arith), part-sets xs (v * d) u d m f)))
-        (sym (rw (a, drop-behind (v * d + d) xs (v * d) u (omega arith))))))
+        let front : chunks d (v + 1) ys ≡ chunks d v xs ++ (u ∷ []) =
+        rw (y, add-one, chunks-snoc d v (sets xs (v * d) u), chunks-sets d v 0 xs (v * d) u (omega arith), part-sets xs (v * d) u d m f) in
+        let back : chunks d (n - (v + 1)) (drop ((v + 1) * d) ys) ≡ ws = rw (y, a, drop-behind (v * d + d) xs (v * d) u (omega arith)) in
+        pending-at ∙ rw (s .0, front, back, y, s .2, s .3) (from-next d n xs norms v c ws u _ _ _ m)
 
     pub iteration-stop : (ys : List Float) → normalised L c ≡ Collapsed → ys ≡ sets xs (v * d) (divided L c)
         → pending d n xs norms v ≡ holds (some (refuse 14 v)) ys norms
-    unfolding concat
     iteration-stop ys e k =
         let s = was-collapsed L c e in
         let m : length c ≡ d = cleared-length L d v xs fits in
         let y : ys ≡ sets xs (v * d) c = k ∙ ap (sets xs (v * d)) (s .1) in
         let z : length (sets xs (v * d) c) ≡ length xs = length-sets xs (v * d) c in
         let r = rows in
-        rw y
-        (pending-at
-        ∙ ap (from d n xs norms v) (orthonormalise-stop L (chunks d v xs) (part (v * d) d xs) behind (s .0))
-        ∙ same (ap (λ (k : ℕ). some (refuse 14 k)) (add-zero v))
-        (sets-append xs (v * d) c _
-        ∙ rw (m, concat-chunks, ← drop-behind (v * d + d) xs (v * d) c (omega arith)) (sets-own (sets xs (v * d) c) (v * d + d) ((n - (v + 1)) * d) (omega arith)))
-        refl)
+        pending-at
+        ∙ rw (s .0, y)
+        (from-collapsed d n xs norms v c ws u _ _ _
+        ∙ rw (m, concat-chunks, ← drop-behind (v * d + d) xs (v * d) c (omega arith), sets-own (sets xs (v * d) c) (v * d + d) ((n - (v + 1)) * d) (omega arith)))
 
   -- ---- the answers before the loop
   module _ (xs : List Float) (d : ℕ) (norms : List Float) where

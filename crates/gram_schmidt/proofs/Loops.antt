@@ -1,6 +1,6 @@
 -- What the loops go by: one more iteration, and the end. What is left to do is a function of the list as it is and of the index.
 use Prim.Native.Nat.{ℕ, suc, _+_, _-_, _*_, _≤_, _<_}
-use native.Mathlib.Nat.{suc-mul, zero-mul, sub-zero, add-zero, add-mul}
+use native.Mathlib.Nat.{suc-mul, add-mul}
 use native.Mathlib.Numerals.{add-one}
 use native.Mathlib.Omega.{arith}
 use mathlib.Core.Path.{_≡_, refl, sym, ap, _∙_}
@@ -42,9 +42,6 @@ pub subtract-end : (p : Float) (b t d : ℕ) (xs : List Float) (i : ℕ) → d �
 unfolding updated
 subtract-end p b t d xs i h g = let n : length (part t d xs) ≡ d = part-length t d xs g in rw (drop-of-length-le (part t d xs) {i = i} (omega arith))
 
-pub subtract-start : (p : Float) (b t d : ℕ) (xs : List Float) → subtracting p b t d xs 0 ≡ sets xs t (subtract-projection p (part t d xs) (part b d xs))
-subtract-start p b t d xs = rw add-zero
-
 -- ---- the product that is summed beside it, over the list as the loop leaves it
 
 getD-before : (l : List Float) (j : ℕ) (w : List Float) (k : ℕ) → k < j → getD (sets l j w) k nan ≡ getD l k nan
@@ -74,9 +71,6 @@ pub summing-end : (n t d : ℕ) (zs : List Float) (s : Float) (i : ℕ) → d �
 unfolding dot-from
 summing-end n t d zs s i h = let e : d - i ≡ 0 = omega arith in rw e
 
-pub summing-start : (n t d : ℕ) (zs : List Float) (s : Float) → summing n t d zs s 0 ≡ dot-from s (part n d zs) (part t d zs)
-summing-start n t d zs s = simp (add-zero, sub-zero)
-
 -- ---- a direction cleared of each earlier one
 
 pub orthogonalise-length : (z : Float) (bs : List (List Float)) (v : List Float) → length (orthogonalise z bs v) ≡ length v
@@ -87,44 +81,30 @@ orthogonalise-length z (b ∷ bs) v = orthogonalise-length z bs (subtract-projec
 pub orthogonalise-twice-length : (z : Float) (bs : List (List Float)) (v : List Float) → length (orthogonalise-twice z bs v) ≡ length v
 orthogonalise-twice-length z bs v = orthogonalise-length z bs _ ∙ orthogonalise-length z _ v
 
--- with sums from z
+-- with sums from z; what is left to do from the earlier direction p on
 module _ (z : Float) where
   abbrev pub orthogonalising : ℕ → ℕ → List Float → ℕ → List Float
   orthogonalising d v xs p = sets xs (v * d) (orthogonalise z (chunks d (v - p) (drop (p * d) xs)) (part (v * d) d xs))
 
-  abbrev pub subtracted : ℕ → ℕ → List Float → ℕ → List Float
-  subtracted d v xs p =
-      let b = part (p * d) d xs in
-      let t = part (v * d) d xs in
-      subtract-projection (dot-from z b t) t b
+  module _ (d v : ℕ) (xs : List Float) (g : v * d + d ≤ length xs) where
+    -- an iteration as the code has it: r is the product, and ys what it leaves of xs
+    pub orthogonalise-next : (p : ℕ) (r : Float) (ys : List Float) → p < v → r ≡ dot-from z (part (p * d) d xs) (part (v * d) d xs)
+        → ys ≡ sets xs (v * d) (subtract-projection r (part (v * d) d xs) (part (p * d) d xs))
+        → orthogonalising d v xs p ≡ orthogonalising d v ys (p + 1)
+    unfolding orthogonalise chunks
+    orthogonalise-next p r ys h e f =
+        let m = v - (p + 1) in
+        let w = subtract-projection (dot-from z (part (p * d) d xs) (part (v * d) d xs)) (part (v * d) d xs) (part (p * d) d xs) in
+        let e₁ : v - p ≡ suc m = omega arith in
+        let e₂ : (p + 1) * d ≡ p * d + d = rw (add-one, suc-mul) in
+        let e₃ : v ≡ suc p + m = omega arith in
+        let e₄ : v * d ≡ p * d + d + m * d = ap (λ (n : ℕ). n * d) e₃ ∙ rw (add-mul, suc-mul) in
+        let e₅ : length w ≡ d = updated-length _ _ _ ∙ part-length (v * d) d xs g in
+        let bs = chunks d m (drop (p * d + d) xs) in
+        let e₆ : length w ≡ length (orthogonalise z bs w) = sym (orthogonalise-length z bs w) in
+        rw (f, e, e₁, e₂, part-sets xs (v * d) w d e₅ g, chunks-sets d m (p * d + d) xs (v * d) w (omega arith), drop-drop d (p * d) xs)
+        (sym (sets-over xs (v * d) w (orthogonalise z bs w) e₆ (omega arith)))
 
-  pub orthogonalise-next : (d v : ℕ) (xs : List Float) (p : ℕ) → p < v → v * d + d ≤ length xs
-      → orthogonalising d v xs p ≡ orthogonalising d v (sets xs (v * d) (subtracted d v xs p)) (p + 1)
-  unfolding orthogonalise chunks
-  orthogonalise-next d v xs p h g =
-      let m = v - (p + 1) in
-      let w = subtracted d v xs p in
-      let e₁ : v - p ≡ suc m = omega arith in
-      let e₂ : (p + 1) * d ≡ p * d + d = rw (add-one, suc-mul) in
-      let e₃ : v ≡ suc p + m = omega arith in
-      let e₄ : v * d ≡ p * d + d + m * d = ap (λ (n : ℕ). n * d) e₃ ∙ rw (add-mul, suc-mul) in
-      let e₅ : length w ≡ d = updated-length _ _ _ ∙ part-length (v * d) d xs g in
-      let e₆ : length w ≡ length (orthogonalise z (chunks d m (drop (p * d + d) xs)) w) = sym (orthogonalise-length z (chunks d m (drop (p * d + d) xs)) w) in
-      rw (e₁, e₂, part-sets xs (v * d) w d e₅ g, chunks-sets d m (p * d + d) xs (v * d) w (omega arith), drop-drop d (p * d) xs)
-      (sym (sets-over xs (v * d) w (orthogonalise z (chunks d m (drop (p * d + d) xs)) w) e₆ (omega arith)))
-
-  pub orthogonalise-end : (d v : ℕ) (xs : List Float) (p : ℕ) → v ≤ p → v * d + d ≤ length xs → orthogonalising d v xs p ≡ xs
-  unfolding orthogonalise chunks
-  orthogonalise-end d v xs p h g =
-      let e : v - p ≡ 0 = omega arith in
-      rw e (sets-own xs (v * d) d g)
-
-  pub orthogonalise-start : (d v : ℕ) (xs : List Float) → orthogonalising d v xs 0 ≡ sets xs (v * d) (orthogonalise z (chunks d v xs) (part (v * d) d xs))
-  orthogonalise-start d v xs = simp (zero-mul, sub-zero)
-
-  -- an iteration as the code has it: r is the product
-  pub orthogonalise-iteration : (d v : ℕ) (xs : List Float) (p : ℕ) (r : Float) (ys : List Float) → p < v → v * d + d ≤ length xs
-      → r ≡ dot-from z (part (p * d) d xs) (part (v * d) d xs)
-      → ys ≡ sets xs (v * d) (subtract-projection r (part (v * d) d xs) (part (p * d) d xs))
-      → orthogonalising d v xs p ≡ orthogonalising d v ys (p + 1)
-  orthogonalise-iteration d v xs p r ys h g e f = rw (f, e) (orthogonalise-next d v xs p h g)
+    pub orthogonalise-end : (p : ℕ) → v ≤ p → orthogonalising d v xs p ≡ xs
+    unfolding orthogonalise chunks
+    orthogonalise-end p h = let e : v - p ≡ 0 = omega arith in rw e (sets-own xs (v * d) d g)

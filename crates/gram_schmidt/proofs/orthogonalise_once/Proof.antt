@@ -1,6 +1,6 @@
 -- `gram_schmidt::orthogonalise_once` meets its contract: one pass over the earlier directions. The product for the next of them is at hand.
 use native.Mathlib.Omega.{arith}
-use native.Mathlib.Nat.{suc-mul, zero-mul}
+use native.Mathlib.Nat.{suc-mul, zero-mul, sub-zero}
 use native.Mathlib.Numerals.{add-one}
 use Prim.Native.Nat.{_≤_, _<_, _+_, _-_, _*_}
 use mathlib.Core.Path.{_≡_, refl, sym, _∙_}
@@ -8,7 +8,7 @@ use lib.ListN.{length}
 use Rattle.gram_schmidt.specs.GramSchmidt.{euclidean}
 use Rattle.floats.specs.Vector.{dot-from, part}
 use Rattle.floats.proofs.Vector.{vector-fits}
-use Rattle.gram_schmidt.proofs.Loops.{orthogonalising, orthogonalise-start, orthogonalise-iteration, orthogonalise-end}
+use Rattle.gram_schmidt.proofs.Loops.{orthogonalising, orthogonalise-next, orthogonalise-end}
 use Rattle.gram_schmidt.proofs.orthogonalise_once.Statement.{statement}
 use Rattle.gram_schmidt.proofs.orthogonalise_once.Tie as tie
 
@@ -55,8 +55,8 @@ loop-again c =
     let e : (l .p + 1) * ar .d ≡ l .p * ar .d + ar .d = rw (add-one, suc-mul) in (
       omega arith,
       s .kept .0 ∙ l .inv .1,
-      l .inv .2 ∙ orthogonalise-iteration (euclidean .start) (ar .d) (ar .v) (l .values) (l .p) (l .c) (s .last .0) (omega arith) (omega arith) (l .inv .3) (s .ensures .0),
-      s .ensures .1 ∙ rw e,
+      l .inv .2 ∙ orthogonalise-next (euclidean .start) (ar .d) (ar .v) (l .values) (omega arith) (l .p) (l .c) (s .last .0) (omega arith) (l .inv .3) (s .ensures .0),
+      rw e (s .ensures .1),
     )
 
 mul-subtract-projection : tie.Need-mul-subtract-projection Inv-loop μ-loop
@@ -73,10 +73,9 @@ returns c =
     let l = c .before .before .before .before .before .loop in
     let ar = c .before .before .before .before .before .before .before .args in
     let s = c .before .before .subtract-projection2 in
-    let q = s .kept .0 ∙ l .inv .1 in (
-      sym (orthogonalise-end (euclidean .start) (ar .d) (ar .v) (s .last .0) (l .p + 1) (omega arith) (omega arith))
-          ∙ sym (l .inv .2 ∙ orthogonalise-iteration (euclidean .start) (ar .d) (ar .v) (l .values) (l .p) (l .c) (s .last .0) (omega arith) (omega arith) (l .inv .3) (s .ensures .0))
-          ∙ orthogonalise-start (euclidean .start) (ar .d) (ar .v) _,
+    let q = s .kept .0 ∙ l .inv .1 in
+    let next = orthogonalise-next (euclidean .start) (ar .d) (ar .v) (l .values) (omega arith) (l .p) (l .c) (s .last .0) (omega arith) (l .inv .3) (s .ensures .0) in (
+      sym (l .inv .2 ∙ next ∙ orthogonalise-end (euclidean .start) (ar .d) (ar .v) (s .last .0) (omega arith) (l .p + 1) (omega arith)) ∙ simp (zero-mul, sub-zero),
       s .ensures .1,
     )
 

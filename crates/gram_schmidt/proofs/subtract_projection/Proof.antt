@@ -1,4 +1,5 @@
 -- `gram_schmidt::subtract_projection` meets its contract. The invariant: what is left to do, done on the list as it is, leaves what the whole leaves of the list at entry; and so with the sum.
+use native.Mathlib.Nat.{add-zero, sub-zero}
 use native.Mathlib.Omega.{arith}
 use Prim.Native.Nat.{_≤_, _+_, _-_}
 use mathlib.Core.Path.{_≡_, refl, sym, ap, _∙_}
@@ -6,21 +7,21 @@ use lib.ListN.{length, length-set}
 use lib.Ieee.{ofBits}
 use Rattle.floats.specs.Vector.{dot-from, part}
 use Rattle.gram_schmidt.specs.GramSchmidt.{euclidean}
-use Rattle.gram_schmidt.proofs.Loops.{entry, subtracting, subtract-start, subtract-next, subtract-end, summing, summing-start, summing-next, summing-end}
+use Rattle.gram_schmidt.proofs.Loops.{entry, subtracting, subtract-next, subtract-end, summing, summing-next, summing-end}
 use Rattle.gram_schmidt.proofs.subtract_projection.Statement.{statement}
 use Rattle.gram_schmidt.proofs.subtract_projection.Tie as tie
 
 abbrev Inv-loop : tie.InvT-loop
 Inv-loop values₀ basis next target d p product₀ i₀ values product i =
     (i ≤ d) × (length values ≡ length values₀) × (subtracting p basis target d values₀ 0 ≡ subtracting p basis target d values i)
-    × (summing next target d (subtracting p basis target d values₀ 0) (euclidean .start) 0 ≡ summing next target d (subtracting p basis target d values₀ 0) product i)
+    × (dot-from (euclidean .start) (part next d (subtracting p basis target d values₀ 0)) (part target d (subtracting p basis target d values₀ 0)) ≡ summing next target d (subtracting p basis target d values₀ 0) product i)
 
 abbrev μ-loop : tie.MeasureT-loop
 μ-loop values₀ basis next target d p product₀ i₀ values product i = d - i
 
 loop-holds : tie.Need-loop-holds Inv-loop μ-loop
 unfolding ofBits
-loop-holds c = (omega arith, refl, refl, refl)
+loop-holds c = (omega arith, refl, refl, simp (add-zero, sub-zero))
 
 add-x : tie.Need-add-x Inv-loop μ-loop
 add-x c = omega arith
@@ -86,8 +87,9 @@ returns c =
     let l = c .before .loop in
     let ar = c .before .before .args in
     let done : subtracting (ar .p) (ar .basis) (ar .target) (ar .d) (ar .values .now) 0 ≡ l .values = l .inv .2 ∙ subtract-end (ar .p) (ar .basis) (ar .target) (ar .d) (l .values) (l .i) (omega arith) (omega arith) in (
-      sym done ∙ subtract-start (ar .p) (ar .basis) (ar .target) (ar .d) _,
-      sym (summing-end (ar .next) (ar .target) (ar .d) _ (l .product) (l .i) (omega arith)) ∙ sym (l .inv .3) ∙ summing-start (ar .next) (ar .target) (ar .d) _ (euclidean .start) ∙ ap (λ zs. dot-from (euclidean .start) (part (ar .next) (ar .d) zs) (part (ar .target) (ar .d) zs)) done,
+      sym done ∙ rw add-zero,
+      sym (l .inv .3 ∙ summing-end (ar .next) (ar .target) (ar .d) _ (l .product) (l .i) (omega arith))
+          ∙ ap (λ zs. dot-from (euclidean .start) (part (ar .next) (ar .d) zs) (part (ar .target) (ar .d) zs)) done,
     )
 
 pub subtract-projection-spec : {M : Type 1} → statement M
