@@ -12,6 +12,6 @@ use Rattle.gram_schmidt.specs.GramSchmidt.{euclidean}
 abbrev pub degenerate : Float → Bool
 degenerate q = not (finite q) || eq q zero⁺
 
--- of every cleared direction w, of euclidean lengths: what the orthonormaliser tests, of the root, is that of the squared length
+-- of every cleared direction w, by euclidean lengths: what the orthonormaliser tests, of the root, is that of the squared length
 abbrev pub CollapseMeaning : Type 0
 CollapseMeaning = (w : List Float) → collapsed (euclidean .norm w) ≡ degenerate (euclidean .report w)

@@ -30,7 +30,7 @@ pub record Lengths : Type 0 where
   pub log : Float → Float
   pub faint : Float → Bool
 
--- `collapse` is document 01's term: the root of the squared length is not finite or at most 2 ^ -1022 (14)
+-- `collapse` is document 01's term: the norm, by euclidean lengths the root of the squared length, is not finite or at most 2 ^ -1022 (14)
 unfoldable pub collapsed : Float → Bool
 collapsed r = not (finite r) || le r least-normal
 
