@@ -3,21 +3,21 @@ use Prim.Native.Nat.{ℕ}
 use mathlib.Core.Bool.{Bool, true, false}
 use mathlib.Core.List.{List, [], _∷_, _++_}
 use mathlib.Core.Option.{Option, none, some, Option·getD}
-use lib.Dec.{leb, ltb, eqb}
-use lib.ListN.{length}
+use lib.Dec.{leb, ltb}
 use lib.Ieee.{Float}
-use lib.Ieee.Scale.{finite}
 use Rattle.error.specs.Tests.{Test, test, first-failing}
 use Rattle.error.specs.Refusal.{Answer, value, refused, refusal}
 use Rattle.error.specs.declared.Refusal.{Refusal}
 use Rattle.floats.specs.Arithmetic.{_⊗_}
-use Rattle.floats.specs.Finite.{first-not-finite, positive}
+use Rattle.floats.specs.Finite.{first-not-finite}
 use Rattle.splitmix64.specs.Mix.{next-state, mix, unit}
-use Rattle.system.specs.System.{dim, matrix-fits}
-use Rattle.rk4.specs.Step.{advance}
+use Rattle.system.specs.System.{dim}
+use Rattle.system.specs.Tests.{dimension-tests, matrix-tests, length-tests}
 use Rattle.system.specs.declared.System.{System}
+use Rattle.rk4.specs.Step.{advance}
+use Rattle.rk4.specs.Tests.{time-tests, step-size-tests}
 use Rattle.gram_schmidt.specs.GramSchmidt.{euclidean}
-use Rattle.benettin.specs.Run.{Dynamics, Generator, Problem, OutputLengths, RunAnswer, as-float, run}
+use Rattle.benettin.specs.Run.{Dynamics, Generator, Problem, OutputLengths, RunAnswer, as-float, top-k-tests, run}
 use Rattle.benettin.specs.declared.BenettinConfig.{BenettinConfig}
 use Rattle.benettin.specs.declared.Configured.{Configured}
 use Rattle.benettin.specs.declared.Configured.the-variants.{Config, Refused}
@@ -40,44 +40,41 @@ pub record Input : Type 0 where
 abbrev pub limit : ℕ
 limit = 16777216
 
--- 3 to 5: steps and windows not 0, then the first count over the limit (0 steps, 1 windows, 2 warm-up)
-abbrev pub limit-tests : ℕ → ℕ → ℕ → List Test
-limit-tests steps windows warm-up =
+-- 3 to 5: steps and windows not 0, then the first count over the limit (0 steps, 1 windows, 2 warm-up). A run that goes on makes `later` windows of the `whole` of them; any other run has the same count twice
+abbrev pub limit-tests : ℕ → ℕ → ℕ → ℕ → List Test
+limit-tests steps later whole warm-up =
     test (ltb 0 steps) 3 0
-    ∷ test (ltb 0 windows) 4 0
+    ∷ test (ltb 0 later) 4 0
     ∷ test (leb steps limit) 5 0
-    ∷ test (leb windows limit) 5 1
+    ∷ test (leb whole limit) 5 1
     ∷ test (leb warm-up limit) 5 2
     ∷ []
 
--- 2 to 5: the settings apart from K
-abbrev pub size-tests : Float → ℕ → ℕ → ℕ → List Test
-size-tests h steps windows warm-up = test (positive h) 2 0 ∷ limit-tests steps windows warm-up
-
 -- 1 to 5
-abbrev pub setting-tests : ℕ → Float → ℕ → ℕ → ℕ → List Test
-setting-tests K h steps windows warm-up = test (ltb 0 K) 1 0 ∷ size-tests h steps windows warm-up
+abbrev pub setting-tests : ℕ → Float → ℕ → ℕ → ℕ → ℕ → List Test
+setting-tests K h steps later whole warm-up = top-k-tests K ++ step-size-tests h ++ limit-tests steps later whole warm-up
 
 abbrev pub is-none : Option ℕ → Bool
 is-none none = true
 is-none (some p) = false
 
--- 10 and 11, of a state that has d entries
-abbrev pub state-tests : ℕ → List Float → List Test
-state-tests d x = test (eqb (length x) d) 10 0 ∷ test (is-none (first-not-finite x)) 11 (Option·getD (first-not-finite x) 0) ∷ []
+-- 11: the first entry that is not finite
+abbrev pub finite-tests : List Float → List Test
+finite-tests x = test (is-none (first-not-finite x)) 11 (Option·getD (first-not-finite x) 0) ∷ []
 
--- 6 to 11: time, dimension, matrix, state
-abbrev pub start-tests : System → List Float → Float → List Float → List Test
-start-tests S m time x =
-    test (finite time) 6 0
-    ∷ test (ltb 0 (dim S)) 7 0
-    ∷ test (leb (dim S) 16) 8 0
-    ∷ test (matrix-fits S m) 9 0
-    ∷ state-tests (dim S) x
+-- 10 and 11
+abbrev pub state-tests : System → List Float → List Test
+state-tests S x = length-tests S x ++ finite-tests x
 
 -- 2 to 11
 abbrev pub early-tests : Input → List Test
-early-tests i = size-tests (i .step-size) (i .steps) (i .windows) (i .warm-up) ++ start-tests (i .system) (i .matrix) (i .time) (i .state)
+early-tests i =
+    step-size-tests (i .step-size)
+    ++ limit-tests (i .steps) (i .windows) (i .windows) (i .warm-up)
+    ++ time-tests (i .time)
+    ++ dimension-tests (i .system)
+    ++ matrix-tests (i .system) (i .matrix)
+    ++ state-tests (i .system) (i .state)
 
 -- ---- the parameters
 
@@ -131,7 +128,7 @@ built none c = value c
 
 unfoldable pub configured : ℕ → Float → ℕ → ℕ → Answer BenettinConfig
 unfolding first-failing
-configured K h steps windows = built (first-failing (setting-tests K h steps windows 0)) (settings K h steps windows 0 default-seed)
+configured K h steps windows = built (first-failing (setting-tests K h steps windows windows 0)) (settings K h steps windows 0 default-seed)
 
 -- what the code's answer stands for
 abbrev pub configuration : Configured → Answer BenettinConfig

@@ -295,14 +295,26 @@ pub record OutputLengths : Type 0 where
 abbrev pub lengths : ℕ → ℕ → ℕ → OutputLengths
 lengths rows exponents state = record { rows = rows; exponents = exponents; state = state }
 
--- 12 K above d, then 13 an output too short: 0 rows of 1 + 2 * K floats, 1 exponents, 2 final state
+-- 1: K is not 0
+abbrev pub top-k-tests : ℕ → List Test
+top-k-tests K = test (ltb 0 K) 1 0 ∷ []
+
+-- 12: K is at most d
+abbrev pub count-tests : ℕ → ℕ → List Test
+count-tests K d = test (leb K d) 12 0 ∷ []
+
+-- 13: no output is too short, 0 rows of 1 + 2 * K floats, 1 exponents, 2 final state
 abbrev pub output-tests : ℕ → ℕ → ℕ → OutputLengths → List Test
-output-tests K d windows o =
-    test (leb K d) 12 0 ∷ test (leb (windows * (1 + 2 * K)) (o .rows)) 13 0 ∷ test (leb K (o .exponents)) 13 1 ∷ test (leb d (o .state)) 13 2 ∷ []
+output-tests K d windows o = test (leb (windows * (1 + 2 * K)) (o .rows)) 13 0 ∷ test (leb K (o .exponents)) 13 1 ∷ test (leb d (o .state)) 13 2 ∷ []
+
+-- 1 to 12, which do not depend on the outputs
+unfoldable pub input-tests : Problem → ℕ → List Test
+input-tests P K = top-k-tests K ++ P .tests ++ count-tests K (P .dynamics .dim)
 
 -- 1 to 13, in number order
 unfoldable pub run-tests : Problem → ℕ → OutputLengths → List Test
-run-tests P K o = test (ltb 0 K) 1 0 ∷ (P .tests ++ output-tests K (P .dynamics .dim) (P .windows) o)
+unfolding input-tests
+run-tests P K o = input-tests P K ++ output-tests K (P .dynamics .dim) (P .windows) o
 
 unfoldable pub run-past : Option Refusal → Problem → ℕ → RunAnswer
 unfolding initial course answer

@@ -11,8 +11,6 @@ pub mod validation;
 pub mod window;
 
 ghost use mathlib.Core.Path.{_≡_};
-ghost use Rattle.error.specs.Refusal.{reported};
-ghost use Rattle.error.specs.Tests.{first-failing};
 ghost use Rattle.benettin.specs.Estimate as Spec;
 use error::LyapunovError;
 use error::Outcome;
@@ -50,57 +48,16 @@ pub struct SpectrumEstimate {
     pub faint: [u64; 16],
 }
 
-// The tests 3 to 5.
-fn validate_limits(steps: u64, windows: u64, warm_up: u64) -> Outcome
-    ensures { λ r. ⌜ reported r ≡ first-failing (Spec.limit-tests steps windows «warm_up») ⌝ }
-{
-    if steps == 0 {
-        return Outcome::Refused(LyapunovError::ZeroStepsPerWindow);
-    }
-    if windows == 0 {
-        return Outcome::Refused(LyapunovError::ZeroWindows);
-    }
-    if COUNT_LIMIT < steps {
-        return Outcome::Refused(LyapunovError::CountAboveLimit(0));
-    }
-    if COUNT_LIMIT < windows {
-        return Outcome::Refused(LyapunovError::CountAboveLimit(1));
-    }
-    if COUNT_LIMIT < warm_up {
-        return Outcome::Refused(LyapunovError::CountAboveLimit(2));
-    }
-    Outcome::Accepted
-}
-
-// The tests 1 to 5.
-pub fn validate_counts(
-    top_k: usize,
-    step_size: f64,
-    steps: u64,
-    windows: u64,
-    warm_up: u64,
-) -> Outcome
-    ensures { λ r. ⌜ reported r ≡ first-failing (Spec.setting-tests «top_k» «step_size» steps windows «warm_up») ⌝ }
-{
-    if top_k == 0 {
-        return Outcome::Refused(LyapunovError::ZeroTopK);
-    }
-    if floats::is_positive(step_size) {
-        validate_limits(steps, windows, warm_up)
-    } else {
-        Outcome::Refused(LyapunovError::InvalidStepSize)
-    }
-}
-
 impl BenettinConfig {
     // Settings with no warm-up windows and the default seed, tested by 1 to 5.
     pub fn new(top_k: usize, step_size: f64, steps_per_window: u64, windows: u64) -> Configured
         ensures { λ r. ⌜ Spec.configuration r ≡ Spec.configured «top_k» «step_size» «steps_per_window» windows ⌝ }
     {
-        if let Outcome::Refused(e) = validate_counts(
+        if let Outcome::Refused(e) = validation::validate_settings(
             top_k,
             step_size,
             steps_per_window,
+            windows,
             windows,
             0,
         ) {

@@ -1,8 +1,11 @@
-// The tests of a run, 1 to 13.
+// The tests of a run, 1 to 13: a function for each block of specs/Estimate.antt and of the end of specs/Run.antt. Crate rk4
+// has the blocks 2 and 6, crate system those of the system and of what is lent beside it.
 ghost use mathlib.Core.Path.{_≡_};
-ghost use Prim.Native.Nat.{_≤_};
+ghost use Prim.Native.Nat.{_+_, _*_};
+ghost use lib.Dec.{leb};
 ghost use Rattle.error.specs.Refusal.{reported};
 ghost use Rattle.error.specs.Tests.{first-failing};
+ghost use Rattle.system.specs.System.{dim};
 ghost use Rattle.benettin.specs.Run as Run;
 ghost use Rattle.benettin.specs.Estimate as Estimate;
 use crate::BenettinConfig;
@@ -10,66 +13,139 @@ use error::LyapunovError;
 use error::Outcome;
 use system::System;
 
+// The tests 3 to 5. A run that goes on makes `later` windows of the `whole` of them; any other run has the same count twice.
+fn validate_limits(steps: u64, later: u64, whole: u64, warm_up: u64) -> Outcome
+    ensures { λ r. ⌜ reported r ≡ first-failing (Estimate.limit-tests steps later whole «warm_up») ⌝ }
+{
+    if steps == 0 {
+        return Outcome::Refused(LyapunovError::ZeroStepsPerWindow);
+    }
+    if later == 0 {
+        return Outcome::Refused(LyapunovError::ZeroWindows);
+    }
+    if crate::COUNT_LIMIT < steps {
+        return Outcome::Refused(LyapunovError::CountAboveLimit(0));
+    }
+    if crate::COUNT_LIMIT < whole {
+        return Outcome::Refused(LyapunovError::CountAboveLimit(1));
+    }
+    if crate::COUNT_LIMIT < warm_up {
+        return Outcome::Refused(LyapunovError::CountAboveLimit(2));
+    }
+    Outcome::Accepted
+}
+
+// The tests 1 to 5.
+pub fn validate_settings(
+    top_k: usize,
+    step_size: f64,
+    steps: u64,
+    later: u64,
+    whole: u64,
+    warm_up: u64,
+) -> Outcome
+    ensures { λ r. ⌜ reported r ≡ first-failing (Estimate.setting-tests «top_k» «step_size» steps later whole «warm_up») ⌝ }
+{
+    let some = error::test(0 < top_k, LyapunovError::ZeroTopK);
+    let step_size = rk4::validation::validate_step_size(step_size);
+    let limits = validate_limits(steps, later, whole, warm_up);
+    let rest = error::first_refusal(step_size, limits);
+    error::first_refusal(some, rest)
+}
+
+// Test 11.
+fn validate_finite(state: &[f64]) -> Outcome
+    ensures { λ r. ⌜ reported r ≡ first-failing (Estimate.finite-tests (now (state .entry))) ⌝ }
+{
+    match floats::first_not_finite(state) {
+        floats::Position::At(i) => Outcome::Refused(LyapunovError::NonFiniteInitialState(i)),
+        floats::Position::Nowhere => Outcome::Accepted,
+    }
+}
+
 // The tests 10 and 11.
-fn validate_state(d: usize, state: &[f64]) -> Outcome
-    ensures { λ r. ⌜ reported r ≡ first-failing (Estimate.state-tests d (now (state .entry))) ⌝ }
+pub fn validate_state(system: System, state: &[f64]) -> Outcome
+    ensures { λ r. ⌜ reported r ≡ first-failing (Estimate.state-tests system (now (state .entry))) ⌝ }
 {
-    if state.len() == d {
-        match floats::first_not_finite(state) {
-            floats::Position::At(i) => Outcome::Refused(LyapunovError::NonFiniteInitialState(i)),
-            floats::Position::Nowhere => Outcome::Accepted,
-        }
-    } else {
-        Outcome::Refused(LyapunovError::StateMismatch)
-    }
+    let length = system::validation::validate_length(system, state);
+    let finite = validate_finite(state);
+    error::first_refusal(length, finite)
 }
 
-// The tests 6 to 11.
-fn validate_start(system: System, matrix: &[f64], time: f64, state: &[f64]) -> Outcome
-    ensures { λ r. ⌜ reported r ≡ first-failing (Estimate.start-tests system (now (matrix .entry)) time (now (state .entry))) ⌝ }
+// Test 12.
+pub fn validate_count(system: System, top_k: usize) -> Outcome
+    ensures { λ r. ⌜ reported r ≡ first-failing (Run.count-tests «top_k» (dim system)) ⌝ }
 {
-    if floats::is_finite(time) {
-        let d = system::dimension(system);
-        if d == 0 {
-            return Outcome::Refused(LyapunovError::ZeroDimension);
-        }
-        if 16 < d {
-            return Outcome::Refused(LyapunovError::DimensionAboveLimit);
-        }
-        if system::matrix_fits(system, matrix) {
-            return validate_state(d, state);
-        }
-        return Outcome::Refused(LyapunovError::MatrixMismatch);
-    }
-    Outcome::Refused(LyapunovError::InvalidInitialTime)
+    error::test(
+        top_k <= system::dimension(system),
+        LyapunovError::InvalidExponentCount,
+    )
 }
 
-// The tests 12, of the count of rates, and 13, of the lengths of the outputs.
-fn validate_outputs(
-    k: usize,
-    d: usize,
+// Whether the rows of so many windows fit. The quotient is compared, since the product may be above 2^64.
+fn rows_fit(top_k: usize, windows: u64, rows: usize) -> bool
+    ensures { λ r. ⌜ r ≡ leb (windows * (1 + 2 * «top_k»)) rows ⌝ }
+{
+    if windows == 0 {
+        return true;
+    }
+    if rows / 2 < top_k {
+        return false;
+    }
+    windows as usize <= rows / (1 + 2 * top_k)
+}
+
+// Test 13.
+pub fn validate_outputs(
+    system: System,
+    top_k: usize,
     windows: u64,
     rows: usize,
     exponents: usize,
     last: usize,
 ) -> Outcome
-    requires { ⌜ (d ≤ 16) × (windows ≤ Estimate.limit) ⌝ }
-    ensures { λ r. ⌜ reported r ≡ first-failing (Run.output-tests k d windows (Run.lengths rows exponents last)) ⌝ }
+    ensures { λ r. ⌜ reported r ≡ first-failing (Run.output-tests «top_k» (dim system) windows (Run.lengths rows exponents last)) ⌝ }
 {
-    if d < k {
-        return Outcome::Refused(LyapunovError::InvalidExponentCount);
-    }
-    let width = 1 + 2 * k;
-    if rows < (windows as usize) * width {
+    if !rows_fit(top_k, windows, rows) {
         return Outcome::Refused(LyapunovError::OutputTooShort(0));
     }
-    if exponents < k {
+    if exponents < top_k {
         return Outcome::Refused(LyapunovError::OutputTooShort(1));
     }
-    if last < d {
-        return Outcome::Refused(LyapunovError::OutputTooShort(2));
-    }
-    Outcome::Accepted
+    error::test(
+        system::dimension(system) <= last,
+        LyapunovError::OutputTooShort(2),
+    )
+}
+
+// The tests 1 to 12.
+pub fn validate_input(
+    system: System,
+    matrix: &[f64],
+    time: f64,
+    state: &[f64],
+    config: BenettinConfig,
+) -> Outcome
+    ensures { λ r. ⌜ reported r ≡ first-failing (Run.input-tests (Estimate.problem (Estimate.input system (now (matrix .entry)) time (now (state .entry)) config)) (config .«top_k»)) ⌝ }
+{
+    let settings = validate_settings(
+        config.top_k,
+        config.step_size,
+        config.steps_per_window,
+        config.windows,
+        config.windows,
+        config.transient_windows,
+    );
+    let time = rk4::validation::validate_time(time);
+    let dimension = system::validation::validate_dimension(system);
+    let matrix = system::validation::validate_matrix(system, matrix);
+    let state = validate_state(system, state);
+    let count = validate_count(system, config.top_k);
+    let rest = error::first_refusal(state, count);
+    let rest = error::first_refusal(matrix, rest);
+    let rest = error::first_refusal(dimension, rest);
+    let rest = error::first_refusal(time, rest);
+    error::first_refusal(settings, rest)
 }
 
 // The tests 1 to 13.
@@ -85,20 +161,7 @@ pub fn validate(
 ) -> Outcome
     ensures { λ r. ⌜ reported r ≡ first-failing (Run.run-tests (Estimate.problem (Estimate.input system (now (matrix .entry)) time (now (state .entry)) config)) (config .«top_k») (Run.lengths rows exponents last)) ⌝ }
 {
-    let k = config.top_k;
-    let windows = config.windows;
-    if let Outcome::Refused(e) = crate::validate_counts(
-        k,
-        config.step_size,
-        config.steps_per_window,
-        windows,
-        config.transient_windows,
-    ) {
-        return Outcome::Refused(e);
-    }
-    if let Outcome::Refused(e) = validate_start(system, matrix, time, state) {
-        return Outcome::Refused(e);
-    }
-    let d = system::dimension(system);
-    validate_outputs(k, d, windows, rows, exponents, last)
+    let input = validate_input(system, matrix, time, state, config);
+    let outputs = validate_outputs(system, config.top_k, config.windows, rows, exponents, last);
+    error::first_refusal(input, outputs)
 }

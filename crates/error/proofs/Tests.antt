@@ -1,13 +1,17 @@
 -- A list of tests: what is refused at the first that fails, and what is known once all are passed.
 use Prim.Native.Nat.{ℕ, zero, suc}
 use native.Mathlib.Omega.{arith}
-use mathlib.Core.Path.{_≡_, refl}
+use mathlib.Core.Path.{_≡_, refl, sym, ap, _∙_}
 use mathlib.Core.Bool.{Bool, true, false, cond}
 use borrow.Author.Tests.{lt-ltb}
 use lib.Dec.{ltb}
 use mathlib.Core.List.{List, [], _∷_, _++_}
 use mathlib.Core.Option.{Option, none, some}
+use Rattle.error.specs.Refusal.{refusal, reported}
 use Rattle.error.specs.Tests.{Test, first-failing, _else_}
+use Rattle.error.specs.declared.LyapunovError.{LyapunovError}
+use Rattle.error.specs.declared.Outcome.{Outcome}
+use Rattle.error.specs.declared.Outcome.the-variants.{Accepted, Refused}
 use Rattle.error.specs.declared.Refusal.{Refusal}
 
 -- ---- one test
@@ -53,6 +57,38 @@ module _ {A : Type 0} (a b : Option A) where
   pub else-go : {r : Option A} → none ≡ a → r ≡ b → r ≡ (a else b)
   unfolding _else_
   else-go e f = rw (← e) f
+
+-- ---- blocks of tests, one behind the other
+
+module _ (ts us : List Test) where
+  -- a block that is passed leaves the answer to those behind it
+  pub behind : {o : Option Refusal} → none ≡ first-failing ts → o ≡ first-failing us → o ≡ first-failing (ts ++ us)
+  behind e f = else-go _ _ e f ∙ sym (first-append ts us)
+
+  pub both-passed : none ≡ first-failing (ts ++ us) → (none ≡ first-failing ts) × (none ≡ first-failing us)
+  unfolding _else_
+  both-passed e = go (first-failing ts) (first-failing us) (e ∙ first-append ts us)
+    where
+      go : (a b : Option Refusal) → none ≡ (a else b) → (none ≡ a) × (none ≡ b)
+      go none b h = (refl, h)
+      go (some r) b h = let z : _≡_ {A = ℕ} 0 1 = cc in absurd (omega arith)
+
+-- ---- the same of what the code answers
+
+module _ (ts : List Test) {r : Outcome} (e : reported r ≡ first-failing ts) where
+  pub accepted : r ≡ Accepted → none ≡ first-failing ts
+  accepted f = sym (ap reported f) ∙ e
+
+  pub refused : (us : List Test) (ε : LyapunovError) → r ≡ Refused ε → some (refusal ε) ≡ first-failing (ts ++ us)
+  refused us ε f = else-stop _ _ _ (sym (ap reported f) ∙ e) ∙ sym (first-append ts us)
+
+-- of one test
+pub tested : (t : Test) {b : Bool} {o : Option Refusal} → o ≡ first-failing (record { passes = b; refusal = t .refusal } ∷ []) → b ≡ t .passes → o ≡ first-failing (t ∷ [])
+tested t e f = rw (← f) e
+
+-- of two blocks
+pub chained : (ts us : List Test) {a b o : Option Refusal} → o ≡ (a else b) → a ≡ first-failing ts → b ≡ first-failing us → o ≡ first-failing (ts ++ us)
+chained ts us e f g = e ∙ rw (f, g) (sym (first-append ts us))
 
 -- ---- what the code's tests say
 

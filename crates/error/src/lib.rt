@@ -3,7 +3,10 @@
 // Every refusal of the library is a LyapunovError. specs/Refusal.antt gives each variant the number and the place that
 // document 01 gives it, and every contract that speaks of a refusal goes through that definition: start reading there.
 ghost use mathlib.Core.Path.{_≡_};
+ghost use mathlib.Core.List.{[], _∷_};
 ghost use Rattle.error.specs.Refusal as Spec;
+ghost use Rattle.error.specs.Tests as Tests;
+ghost use Rattle.error.specs.Tests.{_else_};
 
 // A variant holds its place where document 01 gives it one. The source's names are kept where it has the variant.
 pub enum LyapunovError {
@@ -91,5 +94,26 @@ pub fn place(error: LyapunovError) -> usize
         LyapunovError::NonFiniteTangent(p) => p,
         LyapunovError::NonFiniteExponent(p) => p,
         _ => 0,
+    }
+}
+
+// One test, and what is refused where it fails.
+pub fn test(passes: bool, error: LyapunovError) -> Outcome
+    ensures { λ r. ⌜ Spec.reported r ≡ Tests.first-failing (record { passes = passes; refusal = Spec.refusal error } ∷ []) ⌝ }
+{
+    if passes {
+        Outcome::Accepted
+    } else {
+        Outcome::Refused(error)
+    }
+}
+
+// Tests behind tests: what the first refuse, else what the second do.
+pub fn first_refusal(first: Outcome, second: Outcome) -> Outcome
+    ensures { λ r. ⌜ Spec.reported r ≡ (Spec.reported first else Spec.reported second) ⌝ }
+{
+    match first {
+        Outcome::Accepted => second,
+        Outcome::Refused(error) => Outcome::Refused(error),
     }
 }

@@ -12,11 +12,12 @@ use Rattle.floats.specs.Arithmetic.{_⊗_, half}
 use Rattle.system.specs.System.{dim, field, tangent}
 use Rattle.system.specs.declared.System.{System}
 use Rattle.rk4.specs.Stepper.{combine-stage, advance-by, rk4}
-use Rattle.rk4.specs.Step.{advance, advanced, stepped, step-tests, unless}
+use Rattle.rk4.specs.Tests.{step-tests}
+use Rattle.rk4.specs.Step.{advance, advanced, stepped, unless}
 use Rattle.rk4.specs.Stages.{classical-step}
 use Rattle.rk4.proofs.Directions.{all-length}
 use Rattle.rk4.proofs.ClassicalStep.{classical-step-length, advance-state}
-use Rattle.rk4.proofs.Tests.{all-passed}
+use Rattle.rk4.proofs.Tests.{step-passed}
 
 module _ (S : System) (m : List Float) (h : Float) (x : List Float) where
   pub state-length : length (advance S m h x .0) ≡ length x
@@ -49,4 +50,4 @@ stepped-lengths S m time x t n h = go (first-failing (step-tests S m time x t n 
     go : (o : Option Refusal) → o ≡ first-failing (step-tests S m time x t n h)
         → (length (unless o x t (advanced S m x t n h) .state) ≡ length x) × (length (unless o x t (advanced S m x t n h) .tangents) ≡ length t)
     go (some r) e = (refl, refl)
-    go none e = (advanced-state-length S m h x t n, advanced-tangents-length S m h x t n (all-passed S m time x t n h e .tangents))
+    go none e = (advanced-state-length S m h x t n, advanced-tangents-length S m h x t n (step-passed S m time x t n h .0 e .1))

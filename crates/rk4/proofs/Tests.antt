@@ -1,23 +1,26 @@
 -- A step called alone: what is answered, its tests, and what is known once all are passed.
-use Prim.Native.Nat.{ℕ, _*_, _≤_, _<_}
+use Prim.Native.Nat.{ℕ, _*_, _≤_}
 use mathlib.Core.Path.{_≡_, refl, sym, ap, _∙_}
-use mathlib.Core.Bool.{Bool, true, false, _&&_, false≢true}
+use mathlib.Core.Bool.{true}
 use mathlib.Core.List.{List}
+use mathlib.Core.Logic.{_↔_}
 use mathlib.Core.Option.{Option, none, some}
-use borrow.Author.Tests.{ltb-true, leb-true, eqb-true, lt-ltb, le-leb, eq-eqb}
+use borrow.Author.Tests.{leb-true, eqb-true, le-leb, eq-eqb}
 use lib.ListN.{length}
 use lib.Ieee.{Float}
 use lib.Ieee.Scale.{finite}
 use Rattle.error.specs.Tests.{first-failing}
 use Rattle.error.specs.declared.Refusal.{Refusal}
-use Rattle.error.proofs.Tests.{skip, passed, none-left}
+use Rattle.error.proofs.Tests.{skip, passed, none-left, behind, both-passed}
 use Rattle.floats.specs.Finite.{first-not-finite, index, positive}
 use Rattle.floats.specs.declared.Position.{Position}
 use Rattle.floats.specs.declared.Position.the-variants.{At, Nowhere}
 use Rattle.system.specs.System.{dim, matrix-fits}
 use Rattle.system.specs.declared.System.{System}
 use Rattle.system.specs.declared.System.the-variants.{Lorenz, Rossler, VanDerPol, Linear}
-use Rattle.rk4.specs.Step.{Stepped, step-tests, not-finite, advanced, stepped}
+use Rattle.system.proofs.Tests.{dimension-passed, matrix-passed, length-passed}
+use Rattle.rk4.specs.Tests.{tangent-tests, time-tests, step-size-tests, step-tests, Passed}
+use Rattle.rk4.specs.Step.{Stepped, not-finite, advanced, stepped}
 use Rattle.rk4.specs.Stages.{Evaluable, tested-finite}
 
 -- ---- 16 and 17, by what the code found
@@ -36,52 +39,61 @@ answered {y = y} {vs = vs} e f = ap (λ (o : Option Refusal). record { refusal =
 
 -- ---- the tests
 
-and-parts : (a b : Bool) → (a && b) ≡ true → (a ≡ true) × (b ≡ true)
-and-parts true b h = (refl, h)
-and-parts false b h = absurd (false≢true h)
-
 evaluable : (S : System) (m : List Float) → matrix-fits S m ≡ true → dim S ≤ 16 → Evaluable S m
 evaluable (Lorenz σ ρ β) m e h = tt
 evaluable (Rossler a b c) m e h = tt
 evaluable (VanDerPol μ) m e h = tt
 evaluable (Linear d) m e h = (eqb-true (length m) (d * d) e, h)
 
--- what is known where no test fails
-pub record Passed (S : System) (m : List Float) (time : Float) (x t : List Float) (n : ℕ) (h : Float) : Type 0 where
-  pub dimension-above : 0 < dim S
-  pub dimension-within : dim S ≤ 16
-  pub matrix : matrix-fits S m ≡ true
-  pub state : length x ≡ dim S
-  pub count : n ≤ 16
-  pub tangents : length t ≡ n * dim S
-  pub initial-time : finite time ≡ true
-  pub step-size : positive h ≡ true
+tangents-passed : (S : System) (t : List Float) (n : ℕ) → (none ≡ first-failing (tangent-tests S t n)) ↔ (n ≤ 16) × (length t ≡ n * dim S)
+tangents-passed S t n =
+    (λ e. let p = passed _ _ e in (leb-true _ _ (p .0), eqb-true _ _ (passed _ _ (p .1) .0)), λ h. skip _ _ (le-leb n 16 (h .0)) (skip _ _ (eq-eqb (length t) (n * dim S) (h .1)) none-left))
+
+pub time-passed : (time : Float) → (none ≡ first-failing (time-tests time)) ↔ (finite time ≡ true)
+time-passed time = (λ e. passed _ _ e .0, λ h. skip _ _ h none-left)
+
+pub step-size-passed : (h : Float) → (none ≡ first-failing (step-size-tests h)) ↔ (positive h ≡ true)
+step-size-passed h = (λ e. passed _ _ e .0, λ p. skip _ _ p none-left)
 
 module _ (S : System) (m : List Float) (time : Float) (x t : List Float) (n : ℕ) (h : Float) where
-  pub all-passed : none ≡ first-failing (step-tests S m time x t n h) → Passed S m time x t n h
-  all-passed e₇ =
-      let p₇ = passed _ _ e₇ in
-      let p₈ = passed _ _ (p₇ .1) in
-      let p₉ = passed _ _ (p₈ .1) in
-      let p₁₀ = passed _ _ (p₉ .1) in
-      let p₁₉ = passed _ _ (p₁₀ .1) in
-      let p₆ = passed _ _ (p₁₉ .1) in
-      let p₂ = passed _ _ (p₆ .1) in
-      let q = and-parts _ _ (p₁₉ .0) in
-      record {
-        dimension-above = ltb-true _ _ (p₇ .0);
-        dimension-within = leb-true _ _ (p₈ .0);
-        matrix = p₉ .0;
-        state = eqb-true _ _ (p₁₀ .0);
-        count = leb-true _ _ (q .0);
-        tangents = eqb-true _ _ (q .1);
-        initial-time = p₆ .0;
-        step-size = p₂ .0;
-      }
+  -- no test fails if and only if this is known
+  pub step-passed : (none ≡ first-failing (step-tests S m time x t n h)) ↔ Passed S m x n h × (length t ≡ n * dim S) × (finite time ≡ true)
+  step-passed = (known, none-fails)
+    where
+      known : none ≡ first-failing (step-tests S m time x t n h) → Passed S m x n h × (length t ≡ n * dim S) × (finite time ≡ true)
+      known e =
+          let a = both-passed _ _ e in
+          let b = both-passed _ _ (a .1) in
+          let c = both-passed _ _ (b .1) in
+          let d = both-passed _ _ (c .1) in
+          let f = both-passed _ _ (d .1) in
+          let dimension = dimension-passed S .0 (a .0) in
+          let tangents = tangents-passed S t n .0 (d .0) in (
+            record {
+              dimension-above = dimension .0;
+              dimension-within = dimension .1;
+              matrix = matrix-passed S m .0 (b .0);
+              state = length-passed S x .0 (c .0);
+              count = tangents .0;
+              step-size = step-size-passed h .0 (f .1);
+            },
+            tangents .1,
+            time-passed time .0 (f .0),
+          )
+
+      none-fails : Passed S m x n h × (length t ≡ n * dim S) × (finite time ≡ true) → none ≡ first-failing (step-tests S m time x t n h)
+      none-fails k =
+          let p = k .0 in
+          behind _ _ (dimension-passed S .1 (p .dimension-above, p .dimension-within))
+          (behind _ _ (matrix-passed S m .1 (p .matrix))
+          (behind _ _ (length-passed S x .1 (p .state))
+          (behind _ _ (tangents-passed S t n .1 (p .count, k .1))
+          (behind _ _ (time-passed time .1 (k .2))
+          (step-size-passed h .1 (p .step-size))))))
 
   -- what the private step asks for
   pub steppable : none ≡ first-failing (step-tests S m time x t n h) → Evaluable S m × (dim S ≡ length x) × (length t ≡ n * length x)
-  steppable e = let p = all-passed e in (evaluable S m (p .matrix) (p .dimension-within), sym (p .state), rw (p .state) (p .tangents))
+  steppable e = let p = step-passed .0 e in (evaluable S m (p .0 .matrix) (p .0 .dimension-within), sym (p .0 .state), rw (p .0 .state) (p .1))
 
   -- where no test fails the step is made
   pub stepped-accepted : none ≡ first-failing (step-tests S m time x t n h) → stepped S m time x t n h ≡ advanced S m x t n h
@@ -93,17 +105,5 @@ module _ (S : System) (m : List Float) (time : Float) (x t : List Float) (n : �
   unfolding stepped
   stepped-refused r e = rw (← e)
 
-  -- the other way round: a caller that knows this much is not refused by a test
-  pub none-fails : Passed S m time x t n h → none ≡ first-failing (step-tests S m time x t n h)
-  none-fails p =
-      skip _ _ (lt-ltb 0 (dim S) (p .dimension-above))
-      (skip _ _ (le-leb (dim S) 16 (p .dimension-within))
-      (skip _ _ (p .matrix)
-      (skip _ _ (eq-eqb (length x) (dim S) (p .state))
-      (skip _ _ (rw (le-leb n 16 (p .count)) (eq-eqb (length t) (n * dim S) (p .tangents)))
-      (skip _ _ (p .initial-time)
-      (skip _ _ (p .step-size)
-      none-left))))))
-
-  pub stepped-passed : Passed S m time x t n h → stepped S m time x t n h ≡ advanced S m x t n h
-  stepped-passed p = stepped-accepted (none-fails p)
+  pub stepped-passed : Passed S m x n h → length t ≡ n * dim S → finite time ≡ true → stepped S m time x t n h ≡ advanced S m x t n h
+  stepped-passed p l f = stepped-accepted (step-passed .1 (p, l, f))

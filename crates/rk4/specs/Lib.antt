@@ -1,5 +1,6 @@
 -- What the contracts cite: the stepper, a step called alone, and the code's stages.
 pub mod Stepper
+pub mod Tests
 pub mod Step
 pub mod Stages
 pub mod Marked

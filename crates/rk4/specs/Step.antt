@@ -1,33 +1,18 @@
 -- Document 01, "Step", called alone: its tests 7, 8, 9, 10, 19, 6, 2 in this order, then 16 and 17, and what the two slices hold afterwards. Definitions only.
-use Prim.Native.Nat.{ℕ, _*_}
-use mathlib.Core.Bool.{_&&_}
-use mathlib.Core.List.{List, [], _∷_, map}
+use Prim.Native.Nat.{ℕ}
+use mathlib.Core.List.{List, map}
 use mathlib.Core.Option.{Option, none, some}
-use lib.Dec.{ltb, leb, eqb}
-use lib.ListN.{length}
 use lib.Ieee.{Float}
-use lib.Ieee.Scale.{finite}
 use Rattle.error.specs.Refusal.{refuse, reported}
-use Rattle.error.specs.Tests.{Test, test, first-failing}
+use Rattle.error.specs.Tests.{first-failing}
 use Rattle.error.specs.declared.Refusal.{Refusal}
 use Rattle.error.specs.declared.Outcome.{Outcome}
-use Rattle.floats.specs.Finite.{first-not-finite, positive}
+use Rattle.floats.specs.Finite.{first-not-finite}
 use Rattle.floats.specs.Vector.{chunks, concat}
-use Rattle.system.specs.System.{dim, matrix-fits, field, tangent}
+use Rattle.system.specs.System.{dim, field, tangent}
 use Rattle.system.specs.declared.System.{System}
 use Rattle.rk4.specs.Stepper.{advance-by, rk4}
-
--- of the state x and n directions in t, at a time, with the step size h
-abbrev pub step-tests : System → List Float → Float → List Float → List Float → ℕ → Float → List Test
-step-tests S m time x t n h =
-    test (ltb 0 (dim S)) 7 0
-    ∷ test (leb (dim S) 16) 8 0
-    ∷ test (matrix-fits S m) 9 0
-    ∷ test (eqb (length x) (dim S)) 10 0
-    ∷ test (leb n 16 && eqb (length t) (n * dim S)) 19 0
-    ∷ test (finite time) 6 0
-    ∷ test (positive h) 2 0
-    ∷ []
+use Rattle.rk4.specs.Tests.{step-tests}
 
 -- the answer, and what the two slices hold
 pub record Stepped : Type 0 where

@@ -11,26 +11,24 @@
 //
 // A linear system's matrix is transposed once a step, into columns of 8 or 16 entries. A product then sums all rows at
 // once, a column at a time, at that literal width: the sums run side by side, and each still adds in index order.
+pub mod validation;
+
 use error::LyapunovError;
 use error::Outcome;
 use floats::Position;
 use system::System;
 ghost use mathlib.Core.Path.{_≡_};
-ghost use mathlib.Core.Bool.{_&&_};
 ghost use Prim.Native.Nat.{ℕ, _+_, _*_, _≤_, _<_};
 ghost use mathlib.Core.List.{List, [], _∷_, _++_, map};
-ghost use lib.Dec.{leb, eqb};
 ghost use lib.ListN.{length, take, drop, getD};
 ghost use lib.Ieee.{Float, nan};
-ghost use Rattle.error.specs.Refusal.{reported};
-ghost use Rattle.error.specs.Tests.{first-failing};
 ghost use Rattle.floats.specs.Arithmetic.{_⊕_, _⊗_};
 ghost use Rattle.floats.specs.Vector.{chunks, concat};
 ghost use Rattle.system.specs.System.{dim, field, times};
 ghost use Rattle.system.specs.Array.{in16};
 ghost use Rattle.rk4.specs.Stepper.{combine-stage, rk4-update};
 ghost use Rattle.rk4.specs.Stages.{Evaluable, NotLinear, Transposed, width-of, alike, along, tested-finite};
-ghost use Rattle.rk4.specs.Step.{step-tests, advanced, stepped, observed};
+ghost use Rattle.rk4.specs.Step.{advanced, stepped, observed};
 
 // A slice of at most `width` floats as an array, with zeros behind them. The width is a literal at each call, so that the
 // loop unrolls.
@@ -459,54 +457,6 @@ fn checked_step(
     Outcome::Accepted
 }
 
-// Test 19.
-fn tangents_fit(tangents: &[f64], count: usize, d: usize) -> bool
-    requires { ⌜ d ≤ 16 ⌝ }
-    ensures { λ r. ⌜ r ≡ (leb count 16 && eqb (length (now (tangents .entry))) (count * d)) ⌝ }
-{
-    if count <= 16 {
-        return tangents.len() == count * d;
-    }
-    false
-}
-
-// The tests 7, 8, 9, 10, 19, 6, 2, in this order.
-fn validate_step_inputs(
-    system: System,
-    matrix: &[f64],
-    time: f64,
-    state: &[f64],
-    tangents: &[f64],
-    tangent_count: usize,
-    step_size: f64,
-) -> Outcome
-    ensures { λ r. ⌜ reported r ≡ first-failing (step-tests system (now (matrix .entry)) time (now (state .entry)) (now (tangents .entry)) «tangent_count» «step_size») ⌝ }
-{
-    let d = system::dimension(system);
-    if d == 0 {
-        return Outcome::Refused(LyapunovError::ZeroDimension);
-    }
-    if d > 16 {
-        return Outcome::Refused(LyapunovError::DimensionAboveLimit);
-    }
-    if !system::matrix_fits(system, matrix) {
-        return Outcome::Refused(LyapunovError::MatrixMismatch);
-    }
-    if state.len() != d {
-        return Outcome::Refused(LyapunovError::StateMismatch);
-    }
-    if !tangents_fit(tangents, tangent_count, d) {
-        return Outcome::Refused(LyapunovError::TangentMismatch);
-    }
-    if !floats::is_finite(time) {
-        return Outcome::Refused(LyapunovError::InvalidInitialTime);
-    }
-    if !floats::is_positive(step_size) {
-        return Outcome::Refused(LyapunovError::InvalidStepSize);
-    }
-    Outcome::Accepted
-}
-
 // One step of the state and of `tangent_count` directions, which lie one after the other in `tangents` (source: Rk4::step).
 pub fn step(
     system: System,
@@ -519,7 +469,7 @@ pub fn step(
 ) -> Outcome
     ensures { λ r. ⌜ observed r (now (state .exit)) (now (tangents .exit)) ≡ stepped system (now (matrix .entry)) time (now (state .entry)) (now (tangents .entry)) «tangent_count» «step_size» ⌝ }
 {
-    let tested = validate_step_inputs(
+    let tested = validation::validate_step_inputs(
         system,
         matrix,
         time,

@@ -1,4 +1,5 @@
 -- What the contracts cite: the systems, and vectors in the code's arrays; and examples.
 pub mod System
+pub mod Tests
 pub mod Array
 pub mod Examples

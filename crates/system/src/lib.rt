@@ -3,6 +3,8 @@
 // Every function equals a definition of specs/System.antt for every input: start reading there. A field or a tangent map
 // comes as an array of 16, with zeros behind its entries (specs/Array.antt). Crate rk4 has the product with the matrix of
 // a linear system.
+pub mod validation;
+
 ghost use mathlib.Core.Path.{_≡_};
 ghost use mathlib.Core.List.{[]};
 ghost use Rattle.system.specs.System.{dim, field, tangent};

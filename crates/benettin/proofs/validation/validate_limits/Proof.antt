@@ -1,4 +1,4 @@
--- `benettin::validate_limits` meets its contract. `past-n`: the first n tests are passed, so that those behind them decide.
+-- `benettin::validation::validate_limits` meets its contract. `past-n`: the first n tests are passed, so that those behind them decide.
 use Prim.Native.Nat.{ℕ}
 use mathlib.Core.Path.{_≡_}
 use mathlib.Core.Option.{Option}
@@ -8,11 +8,11 @@ use Rattle.error.specs.Tests.{first-failing}
 use Rattle.error.specs.declared.Refusal.{Refusal}
 use Rattle.error.proofs.Tests.{skip, stop, none-left, positive-passes, zero-fails}
 use Rattle.benettin.specs.Estimate.{limit-tests}
-use Rattle.benettin.proofs.validate_limits.Statement.{statement}
-use Rattle.benettin.proofs.validate_limits.Tie as tie
+use Rattle.benettin.proofs.validation.validate_limits.Statement.{statement}
+use Rattle.benettin.proofs.validation.validate_limits.Tie as tie
 
 abbrev from : ℕ → tie.Start → Option Refusal
-from n c = first-failing (drop n (limit-tests (c .args .steps) (c .args .windows) (c .args .warm-up)))
+from n c = first-failing (drop n (limit-tests (c .args .steps) (c .args .later) (c .args .whole) (c .args .warm-up)))
 
 past-1 : (c : tie.Else1) {r : Option Refusal} → r ≡ from 1 (c .before) → r ≡ from 0 (c .before)
 past-1 c = skip _ _ (positive-passes _ (c .if1 .left))

@@ -1,0 +1,65 @@
+// The tests of a step, a function for each block of specs/Tests.antt.
+ghost use mathlib.Core.Path.{_≡_};
+ghost use Prim.Native.Nat.{_≤_};
+ghost use Rattle.error.specs.Refusal.{reported};
+ghost use Rattle.error.specs.Tests.{first-failing};
+ghost use Rattle.system.specs.System.{dim};
+ghost use Rattle.rk4.specs.Tests.{tangent-tests, time-tests, step-size-tests, step-tests};
+use error::LyapunovError;
+use error::Outcome;
+use system::System;
+
+// Test 19.
+fn validate_tangents(system: System, tangents: &[f64], count: usize) -> Outcome
+    requires { ⌜ dim system ≤ 16 ⌝ }
+    ensures { λ r. ⌜ reported r ≡ first-failing (tangent-tests system (now (tangents .entry)) count) ⌝ }
+{
+    if count > 16 {
+        return Outcome::Refused(LyapunovError::TangentMismatch);
+    }
+    let filled = tangents.len() == count * system::dimension(system);
+    error::test(filled, LyapunovError::TangentMismatch)
+}
+
+// Test 6.
+pub fn validate_time(time: f64) -> Outcome
+    ensures { λ r. ⌜ reported r ≡ first-failing (time-tests time) ⌝ }
+{
+    error::test(floats::is_finite(time), LyapunovError::InvalidInitialTime)
+}
+
+// Test 2.
+pub fn validate_step_size(step_size: f64) -> Outcome
+    ensures { λ r. ⌜ reported r ≡ first-failing (step-size-tests «step_size») ⌝ }
+{
+    error::test(
+        floats::is_positive(step_size),
+        LyapunovError::InvalidStepSize,
+    )
+}
+
+// The tests 7, 8, 9, 10, 19, 6, 2, in this order.
+pub fn validate_step_inputs(
+    system: System,
+    matrix: &[f64],
+    time: f64,
+    state: &[f64],
+    tangents: &[f64],
+    tangent_count: usize,
+    step_size: f64,
+) -> Outcome
+    ensures { λ r. ⌜ reported r ≡ first-failing (step-tests system (now (matrix .entry)) time (now (state .entry)) (now (tangents .entry)) «tangent_count» «step_size») ⌝ }
+{
+    if let Outcome::Refused(e) = system::validation::validate_dimension(system) {
+        return Outcome::Refused(e);
+    }
+    let matrix = system::validation::validate_matrix(system, matrix);
+    let length = system::validation::validate_length(system, state);
+    let tangents = validate_tangents(system, tangents, tangent_count);
+    let time = validate_time(time);
+    let step_size = validate_step_size(step_size);
+    let last = error::first_refusal(time, step_size);
+    let last = error::first_refusal(tangents, last);
+    let last = error::first_refusal(length, last);
+    error::first_refusal(matrix, last)
+}

@@ -1,0 +1,20 @@
+-- The tests of a system and of what is lent beside it, a block for each. Definitions only.
+use mathlib.Core.List.{List, [], _∷_}
+use lib.Dec.{ltb, leb, eqb}
+use lib.ListN.{length}
+use lib.Ieee.{Float}
+use Rattle.error.specs.Tests.{Test, test}
+use Rattle.system.specs.System.{dim, matrix-fits}
+use Rattle.system.specs.declared.System.{System}
+
+-- 7 and 8: the dimension is 1 to 16
+abbrev pub dimension-tests : System → List Test
+dimension-tests S = test (ltb 0 (dim S)) 7 0 ∷ test (leb (dim S) 16) 8 0 ∷ []
+
+-- 9: the matrix of a linear system
+abbrev pub matrix-tests : System → List Float → List Test
+matrix-tests S m = test (matrix-fits S m) 9 0 ∷ []
+
+-- 10: the length of a state
+abbrev pub length-tests : System → List Float → List Test
+length-tests S x = test (eqb (length x) (dim S)) 10 0 ∷ []

@@ -1,0 +1,38 @@
+// The tests of a system and of what is lent beside it, a function for each block of specs/Tests.antt.
+ghost use mathlib.Core.Path.{_≡_};
+ghost use Rattle.error.specs.Refusal.{reported};
+ghost use Rattle.error.specs.Tests.{first-failing};
+ghost use Rattle.system.specs.Tests.{dimension-tests, matrix-tests, length-tests};
+use crate::System;
+use error::LyapunovError;
+use error::Outcome;
+
+// The tests 7 and 8.
+pub fn validate_dimension(system: System) -> Outcome
+    ensures { λ r. ⌜ reported r ≡ first-failing (dimension-tests system) ⌝ }
+{
+    let d = crate::dimension(system);
+    let above = error::test(0 < d, LyapunovError::ZeroDimension);
+    let within = error::test(d <= 16, LyapunovError::DimensionAboveLimit);
+    error::first_refusal(above, within)
+}
+
+// Test 9.
+pub fn validate_matrix(system: System, matrix: &[f64]) -> Outcome
+    ensures { λ r. ⌜ reported r ≡ first-failing (matrix-tests system (now (matrix .entry))) ⌝ }
+{
+    error::test(
+        crate::matrix_fits(system, matrix),
+        LyapunovError::MatrixMismatch,
+    )
+}
+
+// Test 10.
+pub fn validate_length(system: System, state: &[f64]) -> Outcome
+    ensures { λ r. ⌜ reported r ≡ first-failing (length-tests system (now (state .entry))) ⌝ }
+{
+    error::test(
+        state.len() == crate::dimension(system),
+        LyapunovError::StateMismatch,
+    )
+}
