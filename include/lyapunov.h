@@ -251,6 +251,17 @@ uint64_t lyapunov_build_config(
     uint64_t *place);
 
 /*
+ * Tests what a run is handed, apart from its outputs, without running: 1 to 12, in this order. The
+ * arguments are those of a run, which tests them again. Only *place is written.
+ */
+uint64_t lyapunov_validate(
+    uint64_t kind, double p0, double p1, double p2,
+    size_t dimension, const double *matrix, size_t matrix_len,
+    double time, const double *state, size_t state_len,
+    size_t top_k, double step_size, uint64_t steps_per_window, uint64_t windows,
+    uint64_t transient_windows, uint64_t *place);
+
+/*
  * One Runge-Kutta step of fourth order: moves the state, and `count` directions along with it.
  *
  *   kind .. matrix_len   the system, see above
@@ -557,6 +568,25 @@ static inline struct lyapunov_estimate lyapunov_end_run(
     estimate.final_time = run->times[LYAPUNOV_FINAL_TIME];
     estimate.measured_time = run->times[LYAPUNOV_MEASURED_TIME];
     return estimate;
+}
+
+/* Tests what a run is handed, apart from its outputs, without running: lyapunov_validate. */
+static inline struct lyapunov_refusal lyapunov_validate_run(
+    const struct lyapunov_system *system, double time, struct lyapunov_const_slice state,
+    const struct lyapunov_settings *settings)
+{
+    double nothing = 0.0;
+    struct lyapunov_const_slice matrix = lyapunov_handed_const(system->matrix, &nothing);
+    struct lyapunov_const_slice start = lyapunov_handed_const(state, &nothing);
+    struct lyapunov_refusal refusal;
+
+    refusal.number = lyapunov_validate(
+        system->kind, system->p0, system->p1, system->p2, system->dimension,
+        matrix.at, matrix.length, time, start.at, start.length,
+        settings->required.top_k, settings->required.step_size,
+        settings->required.steps_per_window, settings->required.windows,
+        settings->transient_windows, &refusal.place);
+    return refusal;
 }
 
 /* A run from a start time: lyapunov_estimate_spectrum_at. */

@@ -172,6 +172,48 @@ static void steps(const struct trial *t)
     check(refusal.number == 10 && refusal.place == 0, "no state to step", t->name);
 }
 
+/* Both forms of the tests 1 to 12 answer so. */
+static void validated(const struct trial *t, double time, const double *state, size_t state_len,
+                      const struct lyapunov_settings *s, uint64_t number, uint64_t place)
+{
+    const struct lyapunov_refusal refusal = lyapunov_validate_run(
+        &t->system, time, lyapunov_lent_const(state, state_len), s);
+    uint64_t at = 77;
+    const uint64_t flat = lyapunov_validate(
+        SYSTEM_OF(t), time, state, state_len, s->required.top_k, s->required.step_size,
+        s->required.steps_per_window, s->required.windows, s->transient_windows, &at);
+
+    check(refusal.number == number && refusal.place == place, "tests by structs", t->name);
+    check(flat == number && at == place, "tests by flat arguments", t->name);
+}
+
+static void validation(const struct trial *t)
+{
+    const double endless = 1e308 * 10.0;
+    const size_t d = t->dimension;
+    double state[MOST];
+    struct lyapunov_settings settings = settings_of(t);
+
+    memcpy(state, t->state, sizeof state);
+    validated(t, 2.5, state, d, &settings, 0, 0);
+    validated(t, endless, state, d, &settings, 6, 0);
+    validated(t, 2.5, state, d - 1, &settings, 10, 0);
+    state[d - 1] = endless;
+    validated(t, 2.5, state, d, &settings, 11, d - 1);
+    settings.required.top_k = d + 1;
+    validated(t, 2.5, t->state, d, &settings, 12, 0);
+    settings.transient_windows = LYAPUNOV_MAX_COUNT + UINT64_C(1);
+    validated(t, 2.5, t->state, d, &settings, 5, 2);
+    settings.required.windows = 0;
+    validated(t, 2.5, t->state, d, &settings, 4, 0);
+    settings.required.steps_per_window = 0;
+    validated(t, 2.5, t->state, d, &settings, 3, 0);
+    settings.required.step_size = -1.0;
+    validated(t, 2.5, t->state, d, &settings, 2, 0);
+    settings.required.top_k = 0;
+    validated(t, 2.5, t->state, d, &settings, 1, 0);
+}
+
 /* Slices at NULL are empty ones. */
 static void empty(const struct trial *t)
 {
@@ -182,6 +224,8 @@ static void empty(const struct trial *t)
     struct lyapunov_outputs none = lyapunov_no_outputs();
     struct lyapunov_refusal refusal;
 
+    refusal = lyapunov_validate_run(&t->system, 0.0, lyapunov_lent_const(NULL, 99), &settings);
+    check(refusal.number == 10 && refusal.place == 0, "no state to test", t->name);
     refusal = lyapunov_spectrum(&t->system, start, &settings, &none).refusal;
     check(refusal.number == 13 && refusal.place == 0, "no outputs", t->name);
     refusal = lyapunov_spectrum(&t->system, lyapunov_lent_const(NULL, t->dimension), &settings,
@@ -221,6 +265,7 @@ static void systems(void)
         runs(&trials[i]);
         rows(&trials[i]);
         steps(&trials[i]);
+        validation(&trials[i]);
         empty(&trials[i]);
     }
 }

@@ -62,6 +62,7 @@ wrong() { # EDIT
 wrong 's/(settings->required\.)steps_per_window, settings->required\.windows/\1windows, settings->required.steps_per_window/'
 wrong 's/required->steps_per_window, required->windows,$/required->windows, required->steps_per_window,/'
 wrong 's/settings->transient_windows, settings->seed/settings->seed, settings->transient_windows/'
+wrong 's/settings->transient_windows, &refusal/settings->required.windows, \&refusal/'
 wrong 's/^    settings\.seed = seed/    settings.transient_windows = seed/'
 wrong 's/^    system\.p1 = rho/    system.p1 = beta/; s/^    system\.p2 = beta/    system.p2 = rho/'
 wrong 's/^    system\.kind = LYAPUNOV_ROSSLER/    system.kind = LYAPUNOV_LORENZ/'

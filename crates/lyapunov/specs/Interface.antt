@@ -3,13 +3,17 @@ use Prim.Native.Nat.{ℕ}
 use mathlib.Core.Path.{_≡_}
 use mathlib.Core.Bool.{cond}
 use mathlib.Core.List.{List, [], _∷_}
+use mathlib.Core.Option.{Option}
 use lib.Dec.{eqb}
 use lib.Ieee.{Float}
 use Rattle.error.specs.Refusal.{Answer, value, refused, number-of, place-of}
+use Rattle.error.specs.Tests.{first-failing}
+use Rattle.error.specs.declared.Refusal.{Refusal}
 use Rattle.gram_schmidt.specs.GramSchmidt.{Orthonormalised}
 use Rattle.system.specs.declared.System.{System}
 use Rattle.system.specs.declared.System.the-variants.{Lorenz, Rossler, VanDerPol, Linear}
-use Rattle.benettin.specs.Estimate.{Input}
+use Rattle.benettin.specs.Run.{input-tests}
+use Rattle.benettin.specs.Estimate.{Input, problem}
 use Rattle.benettin.specs.Outputs.{Estimated, estimated}
 
 -- what stands where `old` was
@@ -31,6 +35,15 @@ pub record OrthonormaliserReturns (number place : ℕ) (tangents norms : List Fl
   pub place-is : place ≡ place-of (x .refusal)
   pub tangents-are : tangents ≡ x .tangents
   pub norms-are : norms ≡ x .norms
+
+-- what the first failing test of 1 to 12 refuses of a run for K rates
+abbrev pub input-refusal : Input → ℕ → Option Refusal
+input-refusal i K = first-failing (input-tests (problem i) K)
+
+-- the number that is returned and the place that is written, of what is refused or not
+pub record Refuses (number place : ℕ) (o : Option Refusal) : Type 0 where
+  pub number-is : number ≡ number-of o
+  pub place-is : place ≡ place-of o
 
 -- the nineteen counts: place, finished measured windows, steps, and the sixteen faint counts
 abbrev pub counts : Estimated → List ℕ

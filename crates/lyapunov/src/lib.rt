@@ -213,6 +213,41 @@ pub extern "C" fn lyapunov_build_config(
     }
 }
 
+// The number and the place of the first of the tests 1 to 12 that a run with this input fails. Nothing is run.
+#[no_mangle]
+pub extern "C" fn lyapunov_validate(
+    kind: u64,
+    p0: f64,
+    p1: f64,
+    p2: f64,
+    dimension: usize,
+    matrix: &[f64],
+    time: f64,
+    state: &[f64],
+    top_k: usize,
+    step_size: f64,
+    steps_per_window: u64,
+    windows: u64,
+    transient_windows: u64,
+    place: &mut u64,
+) -> u64
+    ensures { λ r. ⌜ Interface.Refuses r (now (place .exit)) (Interface.input-refusal
+        (input (Interface.system kind p0 p1 p2 dimension) (now (matrix .entry)) time (now (state .entry)) (settings «top_k» «step_size» «steps_per_window» windows «transient_windows» default-seed))
+        «top_k») ⌝ }
+{
+    let system = system_of(kind, p0, p1, p2, dimension);
+    let config = BenettinConfig {
+        top_k,
+        step_size,
+        steps_per_window,
+        windows,
+        transient_windows,
+        seed: benettin::DEFAULT_SEED,
+    };
+    let outcome = benettin::validation::validate_input(system, matrix, time, state, config);
+    report(outcome, place)
+}
+
 // A run. `counts` takes the place, the finished measured windows, the steps and the sixteen faint counts; `times` the final
 // and the measured time.
 #[no_mangle]
