@@ -5,11 +5,11 @@ use native.Mathlib.Omega.{arith}
 use mathlib.Core.Path.{_≡_, refl, sym, ap, ap₂, _∙_, subst}
 use mathlib.Core.Logic.{_⊎_, inl, inr, _↔_, _≢_}
 use mathlib.Core.Bool.{Bool, true, false, cond}
-use mathlib.Core.List.{List, [], _∷_, _++_, map}
+use mathlib.Core.List.{List, [], _∷_, _++_, map, append-assoc}
 use mathlib.Core.Option.{Option, none, some}
 use borrow.Author.Tests.{lt-ltb, le-leb}
 use lib.Dec.{leb, ltb}
-use lib.ListN.{length, take, length-map, drop}
+use lib.ListN.{length, take, length-map}
 use lib.Seq.{take-nil, take-take}
 use lib.Ieee.{Float}
 use lib.Ieee.Scale.{finite}
@@ -25,7 +25,7 @@ use Rattle.system.specs.System.{dim}
 use Rattle.rk4.proofs.Lengths.{direction-length}
 use Rattle.gram_schmidt.specs.Orthonormalise.{Basis, orthonormalise}
 use Rattle.benettin.specs.Run.{Dynamics, Problem, RunState, Status, ok, refused, refused-at, tested, stepped, step, steps, unless-collapsed, reorthonormalise, count-faint, Row, Course}
-use Rattle.benettin.specs.Run.{accumulate, row, initial, check-duration, course-of, RunAnswer, ended, stopped, answer, OutputLengths, run-past, run, output-tests, run-tests}
+use Rattle.benettin.specs.Run.{accumulate, row, initial, check-duration, start-of, course-of, RunAnswer, ended, stopped, answer, OutputLengths, run-past, run, count-tests, output-tests, run-tests}
 use Rattle.benettin.specs.LeadingSpectrum.{leading-row, leading, AtOrAbove, RefusedFrom, number, LeadingSpectrum}
 use Rattle.benettin.specs.Estimate.{Input, early-tests, problem, dynamics, estimate}
 use Rattle.benettin.proofs.Prefix.{cut-at, cut-none, cut-some, take-replicate, drawn-directions-take, drawn-directions-sized, drawn-directions-length}
@@ -54,21 +54,25 @@ pub record Sound (P : Problem) : Type 0 where
 -- what is left of a run under way for the first k directions
 abbrev prefix-of : ℕ → RunState → RunState
 prefix-of k c =
-    record { state = c .state; directions = take k (c .directions); time = c .time; steps = c .steps; finished = c .finished; logs = take k (c .logs); reports = take k (c .reports); sums = take k (c .sums); faint = take k (c .faint) }
+    record {
+      motion = record { state = c .motion .state; directions = take k (c .motion .directions); time = c .motion .time; steps = c .motion .steps };
+      norms = record { logs = take k (c .norms .logs); reports = take k (c .norms .reports) };
+      totals = record { finished = c .totals .finished; sums = take k (c .totals .sums); faint = take k (c .totals .faint) };
+    }
 
 -- ---- the run for K beside the run for k
 
 abbrev prefix : ℕ → ℕ → Relation
 prefix d k =
     record {
-      States = λ c e. Sized d (c .directions) × (e ≡ prefix-of k c);
+      States = λ c e. Sized d (c .motion .directions) × (e ≡ prefix-of k c);
       FirstExcluded = AtOrAbove d k;
       SecondExcluded = λ s. ⊥;
       Refusals = λ r s. s ≡ r;
       Rows = λ rs ss. ss ≡ map (leading-row k) rs;
     }
 
-prefix-tested : (d k : ℕ) → 0 < d → (p q q′ : Option ℕ) (b : Bool) (c n : RunState) → Sized d (n .directions) → q′ ≡ cut-at (k * d) q
+prefix-tested : (d k : ℕ) → 0 < d → (p q q′ : Option ℕ) (b : Bool) (c n : RunState) → Sized d (n .motion .directions) → q′ ≡ cut-at (k * d) q
     → Similar (prefix d k) (tested p q b c n) (tested p q′ b (prefix-of k c) (prefix-of k n))
 unfolding tested
 prefix-tested d k pd (some i) q q′ b c n s e = inr refl
@@ -110,23 +114,23 @@ duration-sim X M c e r s = go (finite (M .duration))
     go false = inr s
 
 module _ (M : Dynamics) (keeps : Keeps M) (pd : 0 < M .dim) (k : ℕ) where
-  prefix-step : (c : RunState) → Sized (M .dim) (c .directions) → Similar (prefix (M .dim) k) (step M c) (step M (prefix-of k c))
+  prefix-step : (c : RunState) → Sized (M .dim) (c .motion .directions) → Similar (prefix (M .dim) k) (step M c) (step M (prefix-of k c))
   unfolding step
   prefix-step c s =
-      let a = M .advance (c .steps) (c .state) in
-      let vs = map (a .1) (c .directions) in
-      let t = c .time ⊕ M .step-size in
-      let sz : Sized (M .dim) vs = map-sized (M .dim) (a .1) (keeps (c .steps) (c .state)) (c .directions) s in
-      rw (map-take (a .1) k (c .directions))
+      let a = M .advance (c .motion .steps) (c .motion .state) in
+      let vs = map (a .1) (c .motion .directions) in
+      let t = c .motion .time ⊕ M .step-size in
+      let sz : Sized (M .dim) vs = map-sized (M .dim) (a .1) (keeps (c .motion .steps) (c .motion .state)) (c .motion .directions) s in
+      rw (map-take (a .1) k (c .motion .directions))
       (prefix-tested (M .dim) k pd (first-not-finite (a .0)) (first-not-finite (concat vs)) (first-not-finite (concat (take k vs))) (finite t) c (stepped c (a .0) vs t) sz
       (first-not-finite-directions (M .dim) k vs sz))
 
-  prefix-reorthonormalise : (c : RunState) → Sized (M .dim) (c .directions) → Similar (prefix (M .dim) k) (reorthonormalise M c) (reorthonormalise M (prefix-of k c))
+  prefix-reorthonormalise : (c : RunState) → Sized (M .dim) (c .motion .directions) → Similar (prefix (M .dim) k) (reorthonormalise M c) (reorthonormalise M (prefix-of k c))
   unfolding reorthonormalise
   prefix-reorthonormalise c s =
-      let b = orthonormalise (M .lengths) [] (c .directions) in
-      rw (orthonormalise-take (M .lengths) k [] (c .directions))
-      (prefix-collapsed (M .dim) k (b .collapse) c b (orthonormalise-sized (M .lengths) (M .dim) [] (c .directions) s))
+      let b = orthonormalise (M .lengths) [] (c .motion .directions) in
+      rw (orthonormalise-take (M .lengths) k [] (c .motion .directions))
+      (prefix-collapsed (M .dim) k (b .collapse) c b (orthonormalise-sized (M .lengths) (M .dim) [] (c .motion .directions) s))
 
   prefix-law : Invariant (prefix (M .dim) k) M M
   unfolding count-faint accumulate
@@ -149,7 +153,7 @@ other d k n p f s h g (inl e) = h (e .0)
 other d k n p f s h g (inr e) = g (e .0)
 
 abbrev Has : ℕ → ℕ → RunState → Type 0
-Has d k c = Sized d (c .directions) × (length (c .directions) ≡ k)
+Has d k c = Sized d (c .motion .directions) × (length (c .motion .directions) ≡ k)
 
 -- the run beside itself
 abbrev low : ℕ → ℕ → Relation
@@ -164,8 +168,8 @@ low d k =
 
 low-tested : (d k : ℕ) → 0 < d → (p q : Option ℕ) (b : Bool) (c n : RunState) → Has d k n → Below (k * d) q → Related (low d k) (tested p q b c n) (tested p q b c n)
 unfolding tested
-low-tested d k pd (some i) q b c n s h = other d k 16 i (c .finished) (c .steps) (omega arith) (omega arith)
-low-tested d k pd none none false c n s h = other d k 18 0 (c .finished) (c .steps) (omega arith) (omega arith)
+low-tested d k pd (some i) q b c n s h = other d k 16 i (c .totals .finished) (c .motion .steps) (omega arith) (omega arith)
+low-tested d k pd none none false c n s h = other d k 18 0 (c .totals .finished) (c .motion .steps) (omega arith) (omega arith)
 low-tested d k pd none none true c n s h = (s, refl)
 low-tested d k pd none (some i) b c n s h = go
   where
@@ -186,20 +190,20 @@ module _ (M : Dynamics) (keeps : Keeps M) (pd : 0 < M .dim) (k : ℕ) where
   low-step : (c : RunState) → Has (M .dim) k c → Related (low (M .dim) k) (step M c) (step M c)
   unfolding step
   low-step c s =
-      let a = M .advance (c .steps) (c .state) in
-      let vs = map (a .1) (c .directions) in
-      let t = c .time ⊕ M .step-size in
-      let sz : Sized (M .dim) vs = map-sized (M .dim) (a .1) (keeps (c .steps) (c .state)) (c .directions) (s .0) in
-      let n : length vs ≡ k = length-map (c .directions) (a .1) ∙ s .1 in
+      let a = M .advance (c .motion .steps) (c .motion .state) in
+      let vs = map (a .1) (c .motion .directions) in
+      let t = c .motion .time ⊕ M .step-size in
+      let sz : Sized (M .dim) vs = map-sized (M .dim) (a .1) (keeps (c .motion .steps) (c .motion .state)) (c .motion .directions) (s .0) in
+      let n : length vs ≡ k = length-map (c .motion .directions) (a .1) ∙ s .1 in
       low-tested (M .dim) k pd (first-not-finite (a .0)) (first-not-finite (concat vs)) (finite t) c (stepped c (a .0) vs t) (sz, n)
       (subst (λ (m : ℕ). Below m (first-not-finite (concat vs))) (length-concat (M .dim) vs sz ∙ ap (λ (m : ℕ). m * M .dim) n) (first-not-finite-below (concat vs)))
 
   low-reorthonormalise : (c : RunState) → Has (M .dim) k c → Related (low (M .dim) k) (reorthonormalise M c) (reorthonormalise M c)
   unfolding reorthonormalise
   low-reorthonormalise c s =
-      let b = orthonormalise (M .lengths) [] (c .directions) in
-      let w : Whole k b = subst (λ (n : ℕ). Whole n b) (s .1) (orthonormalise-whole (M .lengths) [] (c .directions)) in
-      low-collapsed (M .dim) k (b .collapse) c b (orthonormalise-sized (M .lengths) (M .dim) [] (c .directions) (s .0), w .0) (w .1)
+      let b = orthonormalise (M .lengths) [] (c .motion .directions) in
+      let w : Whole k b = subst (λ (n : ℕ). Whole n b) (s .1) (orthonormalise-whole (M .lengths) [] (c .motion .directions)) in
+      low-collapsed (M .dim) k (b .collapse) c b (orthonormalise-sized (M .lengths) (M .dim) [] (c .motion .directions) (s .0), w .0) (w .1)
 
   low-law : Invariant (low (M .dim) k) M M
   unfolding count-faint accumulate
@@ -207,18 +211,14 @@ module _ (M : Dynamics) (keeps : Keeps M) (pd : 0 < M .dim) (k : ℕ) where
       record {
         on-step = λ c e r. rw (r .1) (inr (low-step c (r .0)));
         on-reorthonormalise = λ c e r. rw (r .1) (inr (low-reorthonormalise c (r .0)));
-        on-duration = λ c e r. duration-sim (low (M .dim) k) M c e r (other (M .dim) k 15 0 (c .finished) (c .steps) (omega arith) (omega arith));
+        on-duration = λ c e r. duration-sim (low (M .dim) k) M c e r (other (M .dim) k 15 0 (c .totals .finished) (c .motion .steps) (omega arith) (omega arith));
         on-faint = λ c e r. (r .0, ap (count-faint M) (r .1));
         on-accumulate = λ c e r. (r .0, ap accumulate (r .1));
         on-none = tt;
         on-row = λ c e rs ss r q. tt;
       }
 
--- the run under way from which a problem's run for K rates starts
-abbrev start : Problem → ℕ → RunState
-start P K = initial (P .generator) (P .dynamics .dim) (P .start) (P .time) (P .seed) K
-
-start-prefix : (P : Problem) (k K : ℕ) → k ≤ K → start P k ≡ prefix-of k (start P K)
+start-prefix : (P : Problem) (k K : ℕ) → k ≤ K → start-of P k ≡ prefix-of k (start-of P K)
 unfolding initial
 start-prefix P k K h =
     rw (drawn-directions-take (P .generator) (P .dynamics .dim) k K (P .seed) h, take-replicate zero⁺ k K h, take-replicate {A = ℕ} 0 k K h, take-nil {A = Float} k) refl
@@ -261,13 +261,13 @@ module _ (P : Problem) (S : Sound P) (pd : 0 < P .dynamics .dim) (k K : ℕ) (h 
   unfolding initial
   two-courses =
       similar-course (prefix (P .dynamics .dim) k) (P .dynamics) (P .dynamics) (prefix-law (P .dynamics) (S .keeps) pd k) (P .warm-up-steps) (P .warm-up-windows) (P .steps) (P .windows)
-      (start P K) (start P k) (drawn-directions-sized (P .generator) (P .dynamics .dim) K (P .seed), start-prefix P k K h)
+      (start-of P K) (start-of P k) (drawn-directions-sized (P .generator) (P .dynamics .dim) K (P .seed), start-prefix P k K h)
 
   one-course : SimilarCourses (low (P .dynamics .dim) k) (course-of P k) (course-of P k)
   unfolding initial
   one-course =
       similar-course (low (P .dynamics .dim) k) (P .dynamics) (P .dynamics) (low-law (P .dynamics) (S .keeps) pd k) (P .warm-up-steps) (P .warm-up-windows) (P .steps) (P .windows)
-      (start P k) (start P k) ((drawn-directions-sized (P .generator) (P .dynamics .dim) k (P .seed), drawn-directions-length (P .generator) (P .dynamics .dim) k (P .seed)), refl)
+      (start-of P k) (start-of P k) ((drawn-directions-sized (P .generator) (P .dynamics .dim) k (P .seed), drawn-directions-length (P .generator) (P .dynamics .dim) k (P .seed)), refl)
 
   core : (leading k (run-past none P K) ≡ run-past none P k) ↔ ¬ RefusedFrom (P .dynamics .dim) k (run-past none P K)
   unfolding run-past
@@ -305,7 +305,7 @@ undirected-first (t ∷ ts) h = go (t .passes) (undirected-first ts (h .2))
 
 -- 13, which alone depends on the outputs
 abbrev too-short : Problem → ℕ → OutputLengths → List Test
-too-short P K o = drop 1 (output-tests K (P .dynamics .dim) (P .windows) o)
+too-short P K o = output-tests K (P .dynamics .dim) (P .windows) o
 
 abbrev Thirteen : Option Refusal → Type 0
 Thirteen none = Unit {0}
@@ -326,8 +326,9 @@ tests-fit : (P : Problem) (K : ℕ) (o : OutputLengths) → 0 < K → K ≤ P .d
     → first-failing (run-tests P K o) ≡ (first-failing (P .tests) else first-failing (too-short P K o))
 unfolding run-tests
 tests-fit P K o h g =
-    sym (skip (test (ltb 0 K) 1 0) (P .tests ++ output-tests K (P .dynamics .dim) (P .windows) o) (lt-ltb 0 K h) refl)
-    ∙ first-append (P .tests) (output-tests K (P .dynamics .dim) (P .windows) o)
+    sym (skip (test (ltb 0 K) 1 0) ((P .tests ++ count-tests K (P .dynamics .dim)) ++ too-short P K o) (lt-ltb 0 K h) refl)
+    ∙ ap first-failing (append-assoc (P .tests) (count-tests K (P .dynamics .dim)) (too-short P K o))
+    ∙ first-append (P .tests) (count-tests K (P .dynamics .dim) ++ too-short P K o)
     ∙ ap (λ (s : Option Refusal). first-failing (P .tests) else s) (sym (skip (test (leb K (P .dynamics .dim)) 12 0) (too-short P K o) (le-leb K (P .dynamics .dim) g) refl))
 
 module _ (P : Problem) (S : Sound P) (pd : 0 < P .dynamics .dim) (k K : ℕ) (h : k ≤ K) where

@@ -1,5 +1,4 @@
 -- Laws of the definitions of specs/, one subject a file.
-pub mod Draws
 pub mod Prefix
 pub mod Simulation
 pub mod LeadingSpectrum
@@ -8,4 +7,3 @@ pub mod Sizes
 pub mod Reading
 pub mod Refusals
 pub mod LeadingOutputs
-pub mod Steps

@@ -11,7 +11,6 @@ use lib.ListN.{length, take, replicate, length-map}
 use lib.Ieee.{Float}
 use Rattle.gram_schmidt.specs.Orthonormalise.{Lengths, Basis, orthonormalise, with-direction, orthogonalise, collapsed}
 use Rattle.benettin.specs.Run.{Generator, draws, drawn-directions, generator-after}
-use Rattle.benettin.proofs.Draws.{draws-length}
 use Rattle.floats.specs.Vector.{concat}
 use lib.Ieee.Scale.{finite}
 use Rattle.floats.specs.Finite.{first-not-finite}
@@ -58,6 +57,11 @@ drawn-directions-take G d (suc k) zero s h = absurd (not-suc-le-zero h)
 drawn-directions-take G d (suc k) (suc n) s h = ap (λ t. draws G d s ∷ t) (drawn-directions-take G d k n (generator-after (G .next) d s) (le-of-suc-le-suc h))
 
 -- ---- directions of d entries each
+
+pub draws-length : (G : Generator) (n s : ℕ) → length (draws G n s) ≡ n
+unfolding draws
+draws-length G zero s = refl
+draws-length G (suc n) s = ap suc (draws-length G n (G .next s))
 
 pub drawn-directions-sized : (G : Generator) (d n s : ℕ) → Sized d (drawn-directions G d n s)
 unfolding drawn-directions

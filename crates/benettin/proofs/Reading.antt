@@ -58,7 +58,7 @@ answer-fits M d K w o t R hr he hs = go (t .end) (R .end)
           wide = R .wide;
           many = p .1;
           rows-room = room;
-          exponents = length-map (c .sums) _ ∙ p .0 .sums;
+          exponents = length-map (c .totals .sums) _ ∙ p .0 .sums;
           exponents-room = he;
           faint = p .0 .faint;
           state = p .0 .state;
@@ -89,8 +89,8 @@ module _ (i : Input) (K : ℕ) (o : OutputLengths) where
   unfolding run-past problem
   run-fits e =
       let g = ready i K o e in
-      subst (λ (d : ℕ). Fits d K (i .windows) o (run-past none (problem i) K)) (sym (g .0 .state))
-      (answer-fits (problem i .dynamics) (length (i .state)) K (i .windows) o (course-of (problem i) K) (course-rows (problem i) K (problem-keeps i)) (g .1) (g .2) (g .3))
+      subst (λ (d : ℕ). Fits d K (i .windows) o (run-past none (problem i) K)) (g .step .state)
+      (answer-fits (problem i .dynamics) (length (i .state)) K (i .windows) o (course-of (problem i) K) (course-rows (problem i) K (problem-keeps i)) (g .rows) (g .exponents) (rw (g .step .state) (g .state)))
 
   numbered-tests : Numbered (run-tests (problem i) K o)
   unfolding run-tests problem

@@ -2,7 +2,7 @@
 use Prim.Native.Nat.{ℕ, zero, suc}
 use mathlib.Core.Logic.{_⊎_, inl, inr}
 use mathlib.Core.List.{List, [], _∷_}
-use Rattle.benettin.specs.Run.{Dynamics, RunState, RunRefusal, Status, ok, refused, _then_, step, steps, reorthonormalise, check-duration, count-faint, window, warm-up, warmed-up, course, Row}
+use Rattle.benettin.specs.Run.{Dynamics, RunState, RunRefusal, Status, ok, refused, _then_, step, steps, reorthonormalise, check-duration, count-faint, window, warm-up, begin, warmed-up, course, Row}
 use Rattle.benettin.specs.Run.{Course, accumulate, row, with-row, measured, measured-from}
 
 -- A simulation relation between two runs: of their states under way, of their refusals, and of their rows. A refusal that is excluded takes the first or the second run out of the comparison.
@@ -105,12 +105,13 @@ module _ (X : Relation) (M N : Dynamics) (L : Invariant X M N) where
   similar-measured s zero c e r = inr (L .on-none, r)
   similar-measured s (suc n) c e r = similar-with-row (window M s c) (window N s e) (measured M s n) (measured N s n) (similar-window s c e r) (similar-measured s n)
 
+  similar-begin : (c e : RunState) → X .States c e → Similar X (begin M c) (begin N e)
+  unfolding begin
+  similar-begin c e r = similar-then X (reorthonormalise M c) (reorthonormalise N e) (check-duration M) (check-duration N) (L .on-reorthonormalise c e r) (L .on-duration)
+
   pub similar-warmed-up : (s n : ℕ) (c e : RunState) → X .States c e → Similar X (warmed-up M s n c) (warmed-up N s n e)
   unfolding warmed-up
-  similar-warmed-up s n c e r =
-      similar-then X (reorthonormalise M c then check-duration M) (reorthonormalise N e then check-duration N) (warm-up M s n) (warm-up N s n)
-      (similar-then X (reorthonormalise M c) (reorthonormalise N e) (check-duration M) (check-duration N) (L .on-reorthonormalise c e r) (L .on-duration))
-      (similar-warm-up s n)
+  similar-warmed-up s n c e r = similar-then X (begin M c) (begin N e) (warm-up M s n) (warm-up N s n) (similar-begin c e r) (similar-warm-up s n)
 
   similar-measured-from : (s n : ℕ) (x y : Status) → Similar X x y → SimilarCourses X (measured-from M s n x) (measured-from N s n y)
   unfolding measured-from

@@ -12,25 +12,26 @@ use Rattle.floats.specs.Arithmetic.{_⊕_, _⊘_, zero⁺}
 use Rattle.floats.specs.Finite.{first-not-finite}
 use Rattle.floats.specs.Vector.{concat}
 use Rattle.floats.proofs.Updated.{zip-length}
-use Rattle.gram_schmidt.specs.Orthonormalise.{Lengths, Basis, collapsed, orthogonalise, with-direction, orthonormalise}
+use Rattle.gram_schmidt.specs.Orthonormalise.{Basis, orthonormalise}
+use Rattle.gram_schmidt.proofs.Finished.{Logged, norms-length}
 use Rattle.benettin.specs.Run.{Dynamics, Problem, RunState, Status, ok, refused, refused-at, _then_, tested, stepped, step, steps, unless-collapsed, reorthonormalise, faint-or-not, count-faint, window}
-use Rattle.benettin.specs.Run.{warm-up, Course, accumulate, row, with-row, measured, check-duration, warmed-up, measured-from, course, course-of, initial}
+use Rattle.benettin.specs.Run.{warm-up, Course, accumulate, row, with-row, measured, check-duration, begin, warmed-up, measured-from, course, start-of, course-of, initial}
 use Rattle.benettin.specs.Refusals.{Wide}
 use Rattle.benettin.proofs.Prefix.{drawn-directions-length, orthonormalise-whole}
 
 -- K directions, sums and faint counts, d entries of state, and n measured windows finished
 pub record Has (d K n : ℕ) (c : RunState) : Type 0 where
-  pub finished : c .finished ≡ n
-  pub state : length (c .state) ≡ d
-  pub directions : length (c .directions) ≡ K
-  pub sums : length (c .sums) ≡ K
-  pub faint : length (c .faint) ≡ K
+  pub finished : c .totals .finished ≡ n
+  pub state : length (c .motion .state) ≡ d
+  pub directions : length (c .motion .directions) ≡ K
+  pub sums : length (c .totals .sums) ≡ K
+  pub faint : length (c .totals .faint) ≡ K
 
 -- the same, with K logarithms and K squared lengths
 pub record HasLogs (d K n : ℕ) (c : RunState) : Type 0 where
   pub has : Has d K n c
-  pub logs : length (c .logs) ≡ K
-  pub reports : length (c .reports) ≡ K
+  pub logs : length (c .norms .logs) ≡ K
+  pub reports : length (c .norms .reports) ≡ K
 
 -- what holds of a run under way, or n windows are finished where it is refused, by a number that is not 0
 abbrev pub Holds : (RunState → Type 0) → ℕ → Status → Type 0
@@ -42,35 +43,12 @@ unfolding _then_
 then-holds Q R n (ok c) f q h = h c q
 then-holds Q R n (refused r) f q h = q
 
-tested-holds : (R : RunState → Type 0) (p q : Option ℕ) (b : Bool) (n : ℕ) (c e : RunState) → c .finished ≡ n → R e → Holds R n (tested p q b c e)
+tested-holds : (R : RunState → Type 0) (p q : Option ℕ) (b : Bool) (n : ℕ) (c e : RunState) → c .totals .finished ≡ n → R e → Holds R n (tested p q b c e)
 unfolding tested
 tested-holds R (some i) q b n c e f h = (f, omega arith)
 tested-holds R none (some i) b n c e f h = (f, omega arith)
 tested-holds R none none false n c e f h = (f, omega arith)
 tested-holds R none none true n c e f h = h
-
--- ---- as many logarithms and squared lengths as directions, unless one collapsed
-
-abbrev Logged : ℕ → Basis → Type 0
-Logged n b = b .collapse ≡ none → (length (b .logs) ≡ n) × (length (b .reports) ≡ n)
-
-map-none : (o : Option ℕ) → Option·map suc o ≡ none → o ≡ none
-map-none none e = refl
-map-none (some i) e = let z : _≡_ {A = ℕ} 0 1 = cc in absurd (omega arith)
-
-with-direction-logged : (n : ℕ) (t : Bool) (w : List Float) (ws : List (List Float)) (u : List Float) (l q : Float) (r : Basis) → Logged n r → Logged (suc n) (with-direction t w ws u l q r)
-unfolding with-direction
-with-direction-logged n true w ws u l q r h e = let z : _≡_ {A = ℕ} 0 1 = cc in absurd (omega arith)
-with-direction-logged n false w ws u l q r h e = let g = h (map-none (r .collapse) e) in (ap suc (g .0), ap suc (g .1))
-
-orthonormalise-logged : (R : Lengths) (finished vs : List (List Float)) → Logged (length vs) (orthonormalise R finished vs)
-unfolding orthonormalise
-orthonormalise-logged R finished [] e = (refl, refl)
-orthonormalise-logged R finished (v ∷ vs) e =
-    let w = orthogonalise (R .start) finished (orthogonalise (R .start) finished v) in
-    let u = map (λ x. x ⊘ R .norm w) w in
-    with-direction-logged (length vs) (collapsed (R .norm w)) w vs u (R .log (R .norm w)) (R .report w) (orthonormalise R (finished ++ (u ∷ [])) vs)
-    (orthonormalise-logged R (finished ++ (u ∷ [])) vs) e
 
 -- ---- a window
 
@@ -82,11 +60,11 @@ module _ (M : Dynamics) (keeps : KeepsState M) (d K n : ℕ) where
   step-has : (c : RunState) → Has d K n c → Holds (Has d K n) n (step M c)
   unfolding step
   step-has c h =
-      let a = M .advance (c .steps) (c .state) in
-      let vs = map (a .1) (c .directions) in
-      let t = c .time ⊕ M .step-size in
+      let a = M .advance (c .motion .steps) (c .motion .state) in
+      let vs = map (a .1) (c .motion .directions) in
+      let t = c .motion .time ⊕ M .step-size in
       tested-holds (Has d K n) (first-not-finite (a .0)) (first-not-finite (concat vs)) (finite t) n c (stepped c (a .0) vs t) (h .finished)
-      (record { finished = h .finished; state = keeps (c .steps) (c .state) ∙ h .state; directions = length-map (c .directions) (a .1) ∙ h .directions; sums = h .sums; faint = h .faint })
+      (record { finished = h .finished; state = keeps (c .motion .steps) (c .motion .state) ∙ h .state; directions = length-map (c .motion .directions) (a .1) ∙ h .directions; sums = h .sums; faint = h .faint })
 
   steps-has : (s : ℕ) (c : RunState) → Has d K n c → Holds (Has d K n) n (steps M s c)
   unfolding steps
@@ -102,14 +80,14 @@ module _ (M : Dynamics) (keeps : KeepsState M) (d K n : ℕ) where
   basis-has : (c : RunState) → Has d K n c → Holds (HasLogs d K n) n (reorthonormalise M c)
   unfolding reorthonormalise
   basis-has c h =
-      let b = orthonormalise (M .lengths) [] (c .directions) in
-      basis-holds (b .collapse) c b refl h (orthonormalise-whole (M .lengths) [] (c .directions) .0 ∙ h .directions)
-      (λ e. let g = orthonormalise-logged (M .lengths) [] (c .directions) e in (g .0 ∙ h .directions, g .1 ∙ h .directions))
+      let b = orthonormalise (M .lengths) [] (c .motion .directions) in
+      basis-holds (b .collapse) c b refl h (orthonormalise-whole (M .lengths) [] (c .motion .directions) .0 ∙ h .directions)
+      (λ e. let g = norms-length (M .lengths) [] (c .motion .directions) e in (g .0 ∙ h .directions, g .1 ∙ h .directions))
 
   faint-has : (c : RunState) → HasLogs d K n c → HasLogs d K n (count-faint M c)
   unfolding count-faint
   faint-has c h =
-      let f = zip-length (faint-or-not (M .lengths)) (c .faint) (c .reports) K (h .has .faint) (h .reports) in
+      let f = zip-length (faint-or-not (M .lengths)) (c .totals .faint) (c .norms .reports) K (h .has .faint) (h .reports) in
       record { has = record { finished = h .has .finished; state = h .has .state; directions = h .has .directions; sums = h .has .sums; faint = f }; logs = h .logs; reports = h .reports }
 
   window-has : (s : ℕ) (c : RunState) → Has d K n c → Holds (HasLogs d K n) n (window M s c)
@@ -131,11 +109,13 @@ module _ (M : Dynamics) (keeps : KeepsState M) (d K n : ℕ) where
       go true = h
       go false = (h .finished, omega arith)
 
+  begin-has : (c : RunState) → Has d K n c → Holds (Has d K n) n (begin M c)
+  unfolding begin
+  begin-has c h = then-holds (HasLogs d K n) (Has d K n) n (reorthonormalise M c) (check-duration M) (basis-has c h) (λ e g. duration-has e (g .has))
+
   warmed-up-has : (s w : ℕ) (c : RunState) → Has d K n c → Holds (Has d K n) n (warmed-up M s w c)
   unfolding warmed-up
-  warmed-up-has s w c h =
-      then-holds (Has d K n) (Has d K n) n (reorthonormalise M c then check-duration M) (warm-up M s w)
-      (then-holds (HasLogs d K n) (Has d K n) n (reorthonormalise M c) (check-duration M) (basis-has c h) (λ e g. duration-has e (g .has))) (warm-up-has s w)
+  warmed-up-has s w c h = then-holds (Has d K n) (Has d K n) n (begin M c) (warm-up M s w) (begin-has c h) (warm-up-has s w)
 
 -- ---- each finished window has its row
 
@@ -148,14 +128,14 @@ pub record Rows (d K n w : ℕ) (t : Course) : Type 0 where
 accumulate-has : (d K n : ℕ) (c : RunState) → HasLogs d K n c → HasLogs d K (suc n) (accumulate c)
 unfolding accumulate
 accumulate-has d K n c h =
-    let s = zip-length (_⊕_) (c .sums) (c .logs) K (h .has .sums) (h .logs) in
+    let s = zip-length (_⊕_) (c .totals .sums) (c .norms .logs) K (h .has .sums) (h .logs) in
     record { has = record { finished = ap suc (h .has .finished); state = h .has .state; directions = h .has .directions; sums = s; faint = h .has .faint }; logs = h .logs; reports = h .reports }
 
 module _ (M : Dynamics) (keeps : KeepsState M) (d K s : ℕ) where
   with-row-rows : (n w : ℕ) (x : Status) (f : RunState → Course) → Holds (HasLogs d K n) n x → ((c : RunState) → Has d K (suc n) c → Rows d K (suc n) w (f c)) → Rows d K n (suc w) (with-row M x f)
   unfolding with-row row
   with-row-rows n w (refused r) f e h = record { wide = tt; few = omega arith; end = (e .0 ∙ omega arith, e .1) }
-  with-row-rows n w (ok c) f e h = record { wide = (length-map (accumulate c .logs) _ ∙ g .logs, length-map (accumulate c .sums) _ ∙ g .has .sums, t .wide); few = omega (arith, t .few); end = go (f (accumulate c) .end) (t .end) }
+  with-row-rows n w (ok c) f e h = record { wide = (length-map (accumulate c .norms .logs) _ ∙ g .logs, length-map (accumulate c .totals .sums) _ ∙ g .has .sums, t .wide); few = omega (arith, t .few); end = go (f (accumulate c) .end) (t .end) }
     where
       g : HasLogs d K (suc n) (accumulate c)
       g = accumulate-has d K n c e
@@ -189,7 +169,7 @@ pub course-rows : (P : Problem) (K : ℕ) → KeepsState (P .dynamics) → Rows 
 unfolding course initial
 course-rows P K keeps =
     let d = length (P .start) in
-    let c = initial (P .generator) (P .dynamics .dim) (P .start) (P .time) (P .seed) K in
+    let c = start-of P K in
     from-rows (P .dynamics) keeps d K (P .steps) (P .windows) (warmed-up (P .dynamics) (P .warm-up-steps) (P .warm-up-windows) c)
     (warmed-up-has (P .dynamics) keeps d K 0 (P .warm-up-steps) (P .warm-up-windows) c
     (record {

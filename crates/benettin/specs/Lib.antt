@@ -6,5 +6,4 @@ pub mod Refusals
 pub mod LeadingSpectrum
 pub mod LeadingOutputs
 pub mod Examples
-pub mod Window
 pub mod Validation

@@ -46,19 +46,31 @@ pub record Problem : Type 0 where
 
 -- ---- a run under way
 
-pub record RunState : Type 0 where
+-- what the steps move; `steps` counts those that passed every test
+pub record Motion : Type 0 where
   pub state : List Float
   pub directions : List (List Float)
   pub time : Float
-  -- steps that passed every test, and measured windows finished
   pub steps : ℕ
-  pub finished : ℕ
-  -- what the last orthonormalisation reported
+
+-- what the last orthonormalisation reported of each direction
+pub record Norms : Type 0 where
   pub logs : List Float
   pub reports : List Float
-  -- the sums of the logarithms, and the faint counts: document 01's own term for the number of windows in which a direction's squared length was below 2 ^ -960
+
+-- the measured windows finished, the sums of the logarithms, and the faint counts: document 01's own term for the number of windows in which a direction's squared length was below 2 ^ -960
+pub record Totals : Type 0 where
+  pub finished : ℕ
   pub sums : List Float
   pub faint : List ℕ
+
+pub record RunState : Type 0 where
+  pub motion : Motion
+  pub norms : Norms
+  pub totals : Totals
+
+abbrev pub with-totals : RunState → Totals → RunState
+with-totals c t = record { motion = c .motion; norms = c .norms; totals = t }
 
 pub record RunRefusal : Type 0 where
   pub number : ℕ
@@ -71,7 +83,7 @@ pub data Status : Type 0 where
   refused : RunRefusal → Status
 
 abbrev pub refused-at : ℕ → ℕ → RunState → RunRefusal
-refused-at number place c = record { number = number; place = place; finished = c .finished; steps = c .steps }
+refused-at number place c = record { number = number; place = place; finished = c .totals .finished; steps = c .motion .steps }
 
 infixl 20 _then_
 unfoldable pub _then_ : Status → (RunState → Status) → Status
@@ -87,16 +99,15 @@ tested none none false c n = refused (refused-at 18 0 c)
 tested none none true c n = ok n
 
 abbrev pub stepped : RunState → List Float → List (List Float) → Float → RunState
-stepped c x vs t =
-    record { state = x; directions = vs; time = t; steps = suc (c .steps); finished = c .finished; logs = c .logs; reports = c .reports; sums = c .sums; faint = c .faint }
+stepped c x vs t = record { motion = record { state = x; directions = vs; time = t; steps = suc (c .motion .steps) }; norms = c .norms; totals = c .totals }
 
 unfoldable pub step : Dynamics → RunState → Status
 unfolding tested first-not-finite concat
 step M c =
-    let a = M .advance (c .steps) (c .state) in
+    let a = M .advance (c .motion .steps) (c .motion .state) in
     let x = a .0 in
-    let vs = map (a .1) (c .directions) in
-    let t = c .time ⊕ M .step-size in
+    let vs = map (a .1) (c .motion .directions) in
+    let t = c .motion .time ⊕ M .step-size in
     tested (first-not-finite x) (first-not-finite (concat vs)) (finite t) c (stepped c x vs t)
 
 unfoldable pub steps : Dynamics → ℕ → RunState → Status
@@ -108,7 +119,8 @@ steps M (suc n) c = step M c then steps M n
 
 abbrev pub with-basis : RunState → Basis → RunState
 with-basis c b =
-    record { state = c .state; directions = b .directions; time = c .time; steps = c .steps; finished = c .finished; logs = b .logs; reports = b .reports; sums = c .sums; faint = c .faint }
+    let m = c .motion in
+    record { motion = record { state = m .state; directions = b .directions; time = m .time; steps = m .steps }; norms = record { logs = b .logs; reports = b .reports }; totals = c .totals }
 
 unfoldable pub unless-collapsed : Option ℕ → RunState → Basis → Status
 unless-collapsed (some i) c b = refused (refused-at 14 i c)
@@ -116,7 +128,7 @@ unless-collapsed none c b = ok (with-basis c b)
 
 unfoldable pub reorthonormalise : Dynamics → RunState → Status
 unfolding unless-collapsed orthonormalise
-reorthonormalise M c = let b = orthonormalise (M .lengths) [] (c .directions) in unless-collapsed (b .collapse) c b
+reorthonormalise M c = let b = orthonormalise (M .lengths) [] (c .motion .directions) in unless-collapsed (b .collapse) c b
 
 -- one more, if the report is faint
 abbrev pub faint-or-not : Lengths → ℕ → Float → ℕ
@@ -125,17 +137,8 @@ faint-or-not L n q = cond (L .faint q) (suc n) n
 unfoldable pub count-faint : Dynamics → RunState → RunState
 unfolding zip
 count-faint M c =
-    record {
-      state = c .state;
-      directions = c .directions;
-      time = c .time;
-      steps = c .steps;
-      finished = c .finished;
-      logs = c .logs;
-      reports = c .reports;
-      sums = c .sums;
-      faint = zip (faint-or-not (M .lengths)) (c .faint) (c .reports);
-    }
+    let t = c .totals in
+    with-totals c (record { finished = t .finished; sums = t .sums; faint = zip (faint-or-not (M .lengths)) (t .faint) (c .norms .reports) })
 
 -- `window` is document 01's term: n steps between two orthonormalisations
 unfoldable pub window : Dynamics → ℕ → RunState → Status
@@ -163,26 +166,17 @@ as-float n = whole n
 unfoldable pub accumulate : RunState → RunState
 unfolding zip
 accumulate c =
-    record {
-      state = c .state;
-      directions = c .directions;
-      time = c .time;
-      steps = c .steps;
-      finished = suc (c .finished);
-      logs = c .logs;
-      reports = c .reports;
-      sums = zip (_⊕_) (c .sums) (c .logs);
-      faint = c .faint;
-    }
+    let t = c .totals in
+    with-totals c (record { finished = suc (t .finished); sums = zip (_⊕_) (t .sums) (c .norms .logs); faint = t .faint })
 
 -- `local` and `running` are document 01's terms, of the window alone and of all measured ones so far: logarithm / D, and sum / (D * (w + 1))
 unfoldable pub row : Dynamics → RunState → Row
 unfolding as-float
 row M c =
     record {
-      end-time = c .time;
-      locals = map (λ x. x ⊘ M .duration) (c .logs);
-      runnings = map (λ x. x ⊘ (M .duration ⊗ as-float (c .finished))) (c .sums);
+      end-time = c .motion .time;
+      locals = map (λ x. x ⊘ M .duration) (c .norms .logs);
+      runnings = map (λ x. x ⊘ (M .duration ⊗ as-float (c .totals .finished))) (c .totals .sums);
     }
 
 -- the rows of the measured windows that were finished, and how it ended
@@ -223,15 +217,9 @@ unfoldable pub initial : Generator → ℕ → List Float → Float → ℕ → 
 unfolding drawn-directions
 initial G d x time seed K =
     record {
-      state = x;
-      directions = drawn-directions G d K seed;
-      time = time;
-      steps = 0;
-      finished = 0;
-      logs = [];
-      reports = [];
-      sums = replicate K zero⁺;
-      faint = replicate K 0;
+      motion = record { state = x; directions = drawn-directions G d K seed; time = time; steps = 0 };
+      norms = record { logs = []; reports = [] };
+      totals = record { finished = 0; sums = replicate K zero⁺; faint = replicate K 0 };
     }
 
 -- ---- the run: the basis is orthonormalised (14), then D is tested (15), then the warm-up and the measured windows run
@@ -239,10 +227,15 @@ initial G d x time seed K =
 unfoldable pub check-duration : Dynamics → RunState → Status
 check-duration M c = cond (finite (M .duration)) (ok c) (refused (refused-at 15 0 c))
 
+-- the basis orthonormalised and D tested
+unfoldable pub begin : Dynamics → RunState → Status
+unfolding reorthonormalise check-duration _then_
+begin M c = reorthonormalise M c then check-duration M
+
 -- to the first measured window, over n warm-up windows of s steps
 unfoldable pub warmed-up : Dynamics → ℕ → ℕ → RunState → Status
-unfolding reorthonormalise check-duration warm-up _then_
-warmed-up M s n c = reorthonormalise M c then check-duration M then warm-up M s n
+unfolding begin warm-up _then_
+warmed-up M s n c = begin M c then warm-up M s n
 
 unfoldable pub measured-from : Dynamics → ℕ → ℕ → Status → Course
 unfolding measured
@@ -254,10 +247,12 @@ unfoldable pub course : Dynamics → ℕ → ℕ → ℕ → ℕ → RunState �
 unfolding warmed-up measured-from
 course M u w s n c = measured-from M s n (warmed-up M u w c)
 
--- for K rates
+-- for K rates: from where, and the course
+abbrev pub start-of : Problem → ℕ → RunState
+start-of P K = initial (P .generator) (P .dynamics .dim) (P .start) (P .time) (P .seed) K
+
 abbrev pub course-of : Problem → ℕ → Course
-course-of P K =
-    course (P .dynamics) (P .warm-up-steps) (P .warm-up-windows) (P .steps) (P .windows) (initial (P .generator) (P .dynamics .dim) (P .start) (P .time) (P .seed) K)
+course-of P K = course (P .dynamics) (P .warm-up-steps) (P .warm-up-windows) (P .steps) (P .windows) (start-of P K)
 
 -- ---- the answer
 
@@ -283,7 +278,7 @@ unfoldable pub answer : Dynamics → ℕ → ℕ → List Row → Status → Run
 unfolding as-float
 answer M n K rows (ok c) =
     let m = M .duration ⊗ as-float n in
-    ended rows (record { exponents = map (λ x. x ⊘ m) (c .sums); faint = c .faint; state = c .state; final-time = c .time; measured-time = m; steps = c .steps })
+    ended rows (record { exponents = map (λ x. x ⊘ m) (c .totals .sums); faint = c .totals .faint; state = c .motion .state; final-time = c .motion .time; measured-time = m; steps = c .motion .steps })
 answer M n K rows (refused r) = stopped rows r (no-faint K)
 
 -- the lengths of the three outputs

@@ -3,12 +3,9 @@
 // specs/Run.antt defines a run over any dynamics, specs/Estimate.antt is document 01's run, specs/Outputs.antt is what it
 // leaves in the caller's slices, and the contract of a call (`Meets`). specs/Refusals.antt states what a refused call has
 // written. specs/LeadingSpectrum.antt states that the first rates hold still when more are asked for, and
-// specs/LeadingOutputs.antt states it of two calls. validation.rt makes the tests 1 to 13, basis.rt the directions that a
-// run starts from, window.rt one window (specs/Window.antt): they need nothing of a run under way. Crate estimator proves
-// that the code meets the contract.
-pub mod basis;
+// specs/LeadingOutputs.antt states it of two calls. validation.rt makes the tests 1 to 13. Crate estimator runs: its code
+// meets the contract.
 pub mod validation;
-pub mod window;
 
 ghost use mathlib.Core.Path.{_≡_};
 ghost use Rattle.benettin.specs.Estimate as Spec;

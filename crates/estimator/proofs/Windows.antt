@@ -1,219 +1,138 @@
--- A window, from what its three calls tell.
-use Prim.Native.Nat.{ℕ, _+_, _-_, _*_, _/_, _≤_, _<_}
-use native.Mathlib.Nat.{mul-div-cancel}
+-- A window and a measured window, from what their calls tell.
+use Prim.Native.Nat.{ℕ, _+_, _-_, _*_, _≤_}
+use native.Mathlib.Numerals.{add-one}
 use native.Mathlib.Omega.{arith}
 use mathlib.Core.Path.{_≡_, refl, sym, ap, _∙_}
-use mathlib.Core.List.{List, [], _++_}
-use mathlib.Core.Option.{Option, none, some}
-use borrow.Author.Tests.{ne-eqb, le-ltb}
-use lib.ListN.{length, take, drop}
-use lib.Seq.{take-at, drop-at}
-use lib.Ieee.{Float}
 use mathlib.Core.Bool.{true}
+use mathlib.Core.List.{List, _∷_, _++_, map}
+use lib.ListN.{length, take, drop, length-take}
+use lib.Seq.{length-take-le}
+use lib.Ieee.{Float}
 use lib.Ieee.Scale.{finite}
-use Rattle.error.specs.Refusal.{refusal, refuse, reported}
+use Rattle.error.specs.Refusal.{refusal, reported}
 use Rattle.error.specs.declared.LyapunovError.{LyapunovError}
-use Rattle.error.specs.declared.Refusal.{Refusal}
 use Rattle.error.specs.declared.Outcome.{Outcome}
 use Rattle.error.specs.declared.Outcome.the-variants.{Accepted, Refused}
-use Rattle.floats.specs.Vector.{zip, updated, chunks, concat}
-use Rattle.floats.proofs.Updated.{updated-take, updated-drop, updated-length}
-use Rattle.floats.proofs.Vector.{Sized, chunks-sized, chunks-concat, chunks-length}
+use Rattle.floats.specs.Arithmetic.{_⊕_, _⊗_, _⊘_}
+use Rattle.floats.specs.Vector.{zip, updated}
+use Rattle.floats.proofs.Updated.{updated-take, updated-length}
 use Rattle.system.specs.System.{dim}
 use Rattle.system.specs.declared.System.{System}
-use Rattle.gram_schmidt.specs.Orthonormalise.{Basis, orthonormalise}
-use Rattle.gram_schmidt.specs.GramSchmidt as GramSchmidt
-use Rattle.gram_schmidt.specs.GramSchmidt.{euclidean, stored, orthonormalised, collapse-refusal, holds}
-use Rattle.gram_schmidt.proofs.Finished.{after, norms-length}
-use Rattle.benettin.specs.Run.{Dynamics, RunState, RunRefusal, ok, refused, steps, unless-collapsed, reorthonormalise, with-basis, count-faint, window, _then_}
-use Rattle.benettin.specs.Estimate.{dynamics}
-use Rattle.benettin.specs.Window.{Advanced, Windowed, advance-steps, observed, windowed, orthonormalised-after, with-steps, status-of}
-use Rattle.benettin.specs.declared.window.Advance.{Advance}
-use Rattle.benettin.proofs.Steps.{Follows, steps-follow}
-use Rattle.benettin.proofs.Prefix.{orthonormalise-sized, orthonormalise-whole}
-use Rattle.estimator.specs.Progress.{run-state, refused-by, status, after-steps, with-faint, counted, Within, Fitting}
-use Rattle.estimator.specs.declared.Progress.{Progress}
-use Rattle.estimator.proofs.Loops.{passed-of}
-use Rattle.estimator.proofs.Lists.{counted-more}
-
--- ---- the orthonormaliser's answer
-
-abbrev pub basis : ℕ → ℕ → List Float → Basis
-basis d k t = orthonormalise euclidean [] (chunks d k t)
-
-pub collapsed-refused : (o : Option ℕ) (c : RunState) (b : Basis) (ε : LyapunovError) → some (refusal ε) ≡ collapse-refusal o → unless-collapsed o c b ≡ refused (refused-by ε c)
-unfolding unless-collapsed
-collapsed-refused none c b ε e = let z : _≡_ {A = ℕ} 0 1 = cc in absurd (omega arith)
-collapsed-refused (some j) c b ε e = let z : refusal ε ≡ refuse 14 j = cc in rw z
-
--- what stands where nothing collapsed: the directions in t′, and the logarithms and squared lengths in norms′
-pub record Stands (d k : ℕ) (t t′ norms′ : List Float) : Type 0 where
-  pub whole : basis d k t .collapse ≡ none
-  pub directions : chunks d k t′ ≡ basis d k t .directions
-  pub logs : take k norms′ ≡ basis d k t .logs
-  pub reports : take k (drop k norms′) ≡ basis d k t .reports
-  pub many : length (take k (drop k norms′)) ≡ k
-
-no-collapse : (o : Option ℕ) → none ≡ collapse-refusal o → o ≡ none
-no-collapse none e = refl
-no-collapse (some j) e = let z : _≡_ {A = ℕ} 0 1 = cc in absurd (omega arith)
-
-module _ (d k : ℕ) (t norms : List Float) (h : 0 < d) (g : k ≤ 16) (l : length t ≡ k * d) (m : length norms ≡ 32) where
-  stored-is : orthonormalised t d norms ≡ stored k t norms (basis d k t)
-  unfolding orthonormalised
-  stored-is =
-      let e : length t / d ≡ k = ap (λ (n : ℕ). n / d) l ∙ mul-div-cancel k h in
-      rw (e, ne-eqb d 0 (λ z. omega arith), le-ltb (length norms) (2 * k) (omega arith))
-
-  module _ (r : Outcome) (t′ norms′ : List Float) (e : GramSchmidt.observed r t′ norms′ ≡ orthonormalised t d norms) where
-    pub reported-is : reported r ≡ collapse-refusal (basis d k t .collapse)
-    unfolding stored
-    reported-is = ap (λ (x : GramSchmidt.Orthonormalised). x .refusal) (e ∙ stored-is)
-
-    module _ (f : r ≡ Accepted) where
-      whole : basis d k t .collapse ≡ none
-      whole = no-collapse (basis d k t .collapse) (sym (ap reported f) ∙ reported-is)
-
-      whole-is : GramSchmidt.observed r t′ norms′ ≡ holds none (concat (basis d k t .directions) ++ drop (k * d) t) (basis d k t .logs ++ (basis d k t .reports ++ drop (k + k) norms))
-      whole-is = e ∙ stored-is ∙ after d k t norms (omega arith) (omega arith) whole
-
-      logs-length : length (basis d k t .logs) ≡ k
-      logs-length = norms-length [] (chunks d k t) whole .0 ∙ chunks-length d k t
-
-      reports-length : length (basis d k t .reports) ≡ k
-      reports-length = norms-length [] (chunks d k t) whole .1 ∙ chunks-length d k t
-
-      directions-are : chunks d k t′ ≡ basis d k t .directions
-      directions-are =
-          let n : length (basis d k t .directions) ≡ k = orthonormalise-whole euclidean [] (chunks d k t) .0 ∙ chunks-length d k t in
-          let s : Sized d (basis d k t .directions) = orthonormalise-sized euclidean d [] (chunks d k t) (chunks-sized d k t (omega arith)) in
-          ap (λ (x : GramSchmidt.Orthonormalised). chunks d k (x .tangents)) whole-is
-          ∙ ap (λ (j : ℕ). chunks d j (concat (basis d k t .directions) ++ drop (k * d) t)) (sym n)
-          ∙ chunks-concat d (basis d k t .directions) (drop (k * d) t) s
-
-      logs-are : take k norms′ ≡ basis d k t .logs
-      logs-are = ap (λ (x : GramSchmidt.Orthonormalised). take k (x .norms)) whole-is ∙ take-at (basis d k t .logs) _ k logs-length
-
-      reports-are : take k (drop k norms′) ≡ basis d k t .reports
-      reports-are =
-          ap (λ (x : GramSchmidt.Orthonormalised). take k (drop k (x .norms))) whole-is
-          ∙ ap (take k) (drop-at (basis d k t .logs) (basis d k t .reports ++ drop (k + k) norms) k logs-length)
-          ∙ take-at (basis d k t .reports) _ k reports-length
-
-      pub stands : Stands d k t t′ norms′
-      stands = record { whole = whole; directions = directions-are; logs = logs-are; reports = reports-are; many = ap length reports-are ∙ reports-length }
+use Rattle.gram_schmidt.specs.GramSchmidt.{euclidean, observed, orthonormalised}
+use Rattle.benettin.specs.Run.{Dynamics, RunState, RunRefusal, Status, ok, refused, steps, reorthonormalise, count-faint, window, accumulate, row, as-float, _then_}
+use Rattle.benettin.specs.Estimate.{dynamics, limit}
+use Rattle.benettin.specs.Outputs.{flat-row}
+use Rattle.estimator.specs.Progress.{Held, held, motion, norms-of, totals, joined, run-state, status-of, status, after-steps, with-faint, with-sums, counted}
+use Rattle.estimator.specs.UnderWay.{Fits, Bounded, Advanced, Windowed, MeasuredWindow, Recorded, recorded, with-row-of, most}
+use Rattle.estimator.specs.declared.progress.Progress.{Progress}
+use Rattle.estimator.specs.declared.Advance.{Advance}
+use Rattle.estimator.proofs.Basis.{reorthonormalised, reports-many}
+use Rattle.estimator.proofs.Bounds.{bounded-steps, bounded-counted, bounded-added}
 
 -- ---- a window
 
-module _ (M : Dynamics) (n : ℕ) (c : RunState) where
-  pub window-refused : (r : RunRefusal) → steps M n c ≡ refused r → window M n c ≡ refused r
+module _ (M : Dynamics) (n : ℕ) (c : RunState) (v : Outcome) (e : RunState) where
+  window-refused : (ε : LyapunovError) → v ≡ Refused ε → status-of (reported v) e ≡ steps M n c → status-of (reported v) e ≡ window M n c
   unfolding window _then_
-  window-refused r e = rw e
+  window-refused ε f g = rw (← g, f)
 
-  pub window-broken : (e : RunState) (r : RunRefusal) → steps M n c ≡ ok e → reorthonormalise M e ≡ refused r → window M n c ≡ refused r
+  window-collapsed : (b : RunState) (ε : LyapunovError) → v ≡ Refused ε → steps M n c ≡ ok b → status-of (reported v) e ≡ reorthonormalise M b → status-of (reported v) e ≡ window M n c
   unfolding window _then_
-  window-broken e r f g = rw (f, g)
+  window-collapsed b ε f s g = rw (s, ← g, f)
 
-  pub window-ok : (e f : RunState) → steps M n c ≡ ok e → reorthonormalise M e ≡ ok f → window M n c ≡ ok (count-faint M f)
+  window-ok : (b : RunState) → v ≡ Accepted → steps M n c ≡ ok b → status-of (reported v) e ≡ reorthonormalise M b → ok (count-faint M e) ≡ window M n c
   unfolding window _then_
-  window-ok e f g h = rw (g, h)
+  window-ok b f s g = rw (s, ← g, f)
 
--- A window from what the code tells: A is what its steps come to by their definition, and E is the contract of the call.
-module _ (S : System) (m : List Float) (h : Float) (n k : ℕ) (x t norms : List Float) (p : Progress) (fit : Fitting S m h x t norms k) (clock : finite (p .time) ≡ true) where
+-- the steps came to a, the state x′ and the directions t
+module _ {S : System} {m : List Float} {k : ℕ} {h : Float} {H : Held} {n : ℕ} {a : Advance} {x′ t : List Float} (F : Fits S m k h most most H) (g : n ≤ limit)
+    (A : Advanced S m k h n (H .progress .time) (H .state) (H .tangents) a x′ t) where
   abbrev M : Dynamics
   M = dynamics S m h n
 
-  abbrev A : Advanced
-  A = advance-steps S m k h n 0 (p .time) x t
+  abbrev p : Progress
+  p = H .progress
 
-  abbrev c₀ : RunState
-  c₀ = run-state (dim S) k x t norms p
+  abbrev made : Outcome → Progress
+  made v = after-steps p v (a .time) (a .steps)
 
-  abbrev c₁ : RunState
-  c₁ = with-steps (dim S) k c₀ (A .state) (A .tangents) (A .time) (p .steps + A .steps)
+  made-few : a .steps ≤ limit
+  made-few = omega (arith, A .few)
 
-  follows : Follows S m k h n n 0 (p .time) x t A
-  follows = steps-follow S m k h n n 0 (p .time) x t (passed-of fit clock)
+  pub steps-refused : (q : Progress) (ε : LyapunovError) → q ≡ made (a .outcome) → a .outcome ≡ Refused ε → Windowed S m k h n H (held x′ t (H .norms) q)
+  steps-refused q ε e v =
+      record {
+        status = rw e (window-refused M n (run-state (dim S) k H) (a .outcome) _ ε v (A .status (p .steps) (norms-of k (H .norms)) (totals k p)));
+        bounded = λ b c x. rw e (bounded-steps x (a .outcome) (A .clock) made-few);
+      }
 
-  stepped : status-of (A .refusal) c₁ ≡ steps M n c₀
-  stepped = let z : p .steps + 0 ≡ p .steps = omega arith in follows .0 c₀ (p .steps) ∙ rw z
+  module _ (v : a .outcome ≡ Accepted) (o : Outcome) (t′ norms′ : List Float) (l : length t ≡ length (H .tangents)) (lx : length x′ ≡ length (H .state)) (E : observed o t′ norms′ ≡ orthonormalised euclidean t (length x′) (H .norms)) where
+    many : length t ≡ k * dim S
+    many = l ∙ F .tangents
 
-  tangents-many : length (A .tangents) ≡ k * dim S
-  tangents-many = follows .4 ∙ fit .tangents ∙ ap (λ (j : ℕ). k * j) (sym (fit .state))
+    orthonormalised-is : observed o t′ norms′ ≡ orthonormalised euclidean t (dim S) (H .norms)
+    orthonormalised-is = E ∙ ap (λ (d : ℕ). orthonormalised euclidean t d (H .norms)) (lx ∙ F .passed .state)
 
-  dimension-above : 0 < dim S
-  dimension-above = rw (fit .state) (fit .some)
+    abbrev after : RunState
+    after = joined (motion (dim S) k x′ t (a .time) (p .steps + a .steps)) (norms-of k (H .norms)) (totals k p)
 
-  module _ (a : Advance) (x′ t′ norms′ : List Float) where
-    abbrev Ended : Option Refusal → Type 0
-    Ended o = windowed (observed a x′ t′) norms′ ≡ orthonormalised-after o A norms
+    steps-ok : steps M n (run-state (dim S) k H) ≡ ok after
+    steps-ok = sym (A .status (p .steps) (norms-of k (H .norms)) (totals k p)) ∙ rw v
 
-    -- a window that is refused by 14 has made its steps too
-    made-by : (o : Option Refusal) → Ended o → (a .steps ≡ A .steps) × (a .time ≡ A .time) × (x′ ≡ A .state)
-    made-by (some r) e = (ap (λ (w : Windowed). w .advanced .steps) e, ap (λ (w : Windowed). w .advanced .time) e, ap (λ (w : Windowed). w .advanced .state) e)
-    made-by none e = (ap (λ (w : Windowed). w .advanced .steps) e, ap (λ (w : Windowed). w .advanced .time) e, ap (λ (w : Windowed). w .advanced .state) e)
+    again : status (dim S) k (held x′ t′ norms′ (made o)) ≡ reorthonormalise M after
+    unfolding dynamics
+    again =
+        reorthonormalised (dim S) k t (H .norms) (F .passed .dimension-above) (F .passed .count) many (F .norms) o t′ norms′ orthonormalised-is M refl x′ (a .time) (p .steps + a .steps) (norms-of k (H .norms)) (totals k p)
 
-    orthonormalised-is : Ended none → GramSchmidt.observed (a .outcome) t′ norms′ ≡ orthonormalised (A .tangents) (dim S) norms
-    orthonormalised-is e =
-        ap (λ (w : Windowed). GramSchmidt.holds (w .advanced .refusal) (w .advanced .tangents) (w .norms)) e
-        ∙ ap (λ (j : ℕ). orthonormalised (A .tangents) j norms) (follows .3 ∙ sym (fit .state))
+    pub basis-collapsed : (q : Progress) (ε : LyapunovError) → q ≡ made o → o ≡ Refused ε → Windowed S m k h n H (held x′ t′ norms′ q)
+    basis-collapsed q ε e f =
+        record {
+          status = rw e (window-collapsed M n (run-state (dim S) k H) o _ after ε f steps-ok again);
+          bounded = λ b c x. rw e (bounded-steps x o (A .clock) made-few);
+        }
 
-    -- refused in a step, or by a collapse
-    stopped-by : (o : Option Refusal) → A .refusal ≡ o → Ended o → (ε : LyapunovError) → a .outcome ≡ Refused ε → refused (refused-by ε c₁) ≡ window M n c₀
-    unfolding reorthonormalise dynamics
-    stopped-by (some r) f e ε v =
-        let g : A .refusal ≡ some (refusal ε) = sym (ap (λ (w : Windowed). w .advanced .refusal) e) ∙ ap reported v in
-        sym (window-refused M n c₀ (refused-by ε c₁) (sym stepped ∙ rw g))
-    stopped-by none f e ε v =
-        let b = basis (dim S) k (A .tangents) in
-        sym
-        (window-broken M n c₀ c₁ (refused-by ε c₁) (sym stepped ∙ rw f)
-        (collapsed-refused (b .collapse) c₁ b ε (sym (ap reported v) ∙ reported-is (dim S) k (A .tangents) norms dimension-above (fit .few) tangents-many (fit .norms-many) (a .outcome) t′ norms′ (orthonormalised-is e))))
+    pub window-done : (q u : Progress) → q ≡ made o → o ≡ Accepted → u ≡ with-faint q (updated counted (q .faint) (take (k + k - k) (drop k norms′))) → Windowed S m k h n H (held x′ t′ norms′ u)
+    unfolding count-faint dynamics
+    window-done q u e f i =
+        let z : k + k - k ≡ k = omega arith in
+        let i′ : u ≡ with-faint (made Accepted) (updated counted (p .faint) (take k (drop k norms′))) = i ∙ rw (e, f, z) in
+        let r : length (take k (drop k norms′)) ≡ k = reports-many (dim S) k t (H .norms) (F .passed .dimension-above) (F .passed .count) many (F .norms) o t′ norms′ orthonormalised-is f in
+        let y : take k (updated counted (p .faint) (take k (drop k norms′))) ≡ zip counted (take k (p .faint)) (take k (drop k norms′)) =
+        updated-take counted (p .faint) (take k (drop k norms′)) k r (omega (arith, F .bounded .counts, F .passed .count)) in
+        record {
+          status = rw i′ (rw y (window-ok M n (run-state (dim S) k H) o (run-state (dim S) k (held x′ t′ norms′ (made o))) after f steps-ok again));
+          bounded = λ b c x. rw i′ (bounded-counted x Accepted (take k (drop k norms′)) (A .clock) made-few (omega (arith, r)));
+        }
 
-    -- or not
-    counted-by : (o : Option Refusal) → A .refusal ≡ o → Ended o → a .outcome ≡ Accepted → (faint : List ℕ) → k ≤ length (p .faint) → faint ≡ updated counted (p .faint) (take (k + k - k) (drop k norms′))
-        → ok (run-state (dim S) k (A .state) t′ norms′ (with-faint (after-steps p Accepted (A .time) (A .steps)) faint)) ≡ window M n c₀
-    unfolding reorthonormalise unless-collapsed count-faint dynamics
-    counted-by (some r) f e v faint len i =
-        let g : some r ≡ none = sym f ∙ sym (ap (λ (w : Windowed). w .advanced .refusal) e) ∙ ap reported v in
-        let y : _≡_ {A = ℕ} 0 1 = cc in
-        absurd (omega arith)
-    counted-by none f e v faint len i =
-        let b = basis (dim S) k (A .tangents) in
-        let g = stands (dim S) k (A .tangents) norms dimension-above (fit .few) tangents-many (fit .norms-many) (a .outcome) t′ norms′ (orthonormalised-is e) v in
-        let u : k + k - k ≡ k = omega arith in
-        let F : take k faint ≡ zip counted (take k (p .faint)) (b .reports) =
-        ap (take k) (i ∙ rw u) ∙ updated-take counted (p .faint) (take k (drop k norms′)) k (g .many) len ∙ rw (g .reports) in
-        sym (window-ok M n c₀ c₁ (with-basis c₁ b) (sym stepped ∙ rw f) (rw (g .whole)) ∙ rw (g .directions, g .logs, g .reports, F))
+-- ---- a measured window
 
-    module _ (E : Ended (A .refusal)) where
-      pub window-made : (a .steps ≤ n) × (finite (a .time) ≡ true)
-      window-made = let g = made-by (A .refusal) E in (rw (g .0) (omega (arith, follows .1)), rw (g .1) (follows .2))
+module _ {S : System} {m : List Float} {k : ℕ} {h : Float} {n : ℕ} {H H′ : Held} (W : Windowed S m k h n H H′) (old : List Float) where
+  pub measured-refused : (ε : LyapunovError) → H′ .progress .outcome ≡ Refused ε → MeasuredWindow S m k h n H old H′ old
+  measured-refused ε v =
+      record {
+        row-left = rw (← W .status, v);
+        bounded = λ a c x. let y = W .bounded a c x in
+            record { counts = y .counts; behind = y .behind; sums = y .sums; clock = y .clock; steps = y .steps; windows = omega (arith, y .windows); faint = y .faint };
+      }
 
-      pub window-stopped : (q : Progress) (ε : LyapunovError) → q ≡ after-steps p (a .outcome) (a .time) (a .steps) → a .outcome ≡ Refused ε → status (q .outcome) (run-state (dim S) k x′ t′ norms′ q) ≡ window M n c₀
-      window-stopped q ε e v = rw (e, v, made-by (A .refusal) E .0) (stopped-by (A .refusal) refl E ε v)
+  abbrev q : Progress
+  q = H′ .progress
 
-      pub window-done : (q u : Progress) → a .outcome ≡ Accepted → k ≤ length (p .faint) → q ≡ after-steps p (a .outcome) (a .time) (a .steps)
-          → u ≡ with-faint q (updated counted (q .faint) (take (k + k - k) (drop k norms′))) → status (u .outcome) (run-state (dim S) k x′ t′ norms′ u) ≡ window M n c₀
-      window-done q u v len eq eu =
-          let g = made-by (A .refusal) E in
-          rw (eu, eq, v, g .0, g .1, g .2) (counted-by (A .refusal) refl E v (updated counted (p .faint) (take (k + k - k) (drop k norms′))) len refl)
+  abbrev norms : List Float
+  norms = H′ .norms
 
--- ---- what is kept beside it
-
-pub within-steps : (k n : ℕ) (p q : Progress) (v : Outcome) (time : Float) (made : ℕ) → finite time ≡ true → made ≤ n → q ≡ after-steps p v time made → Within k n 1 0 p q
-within-steps k n p q v time made f h e = rw e (record { behind = refl; counts = refl; totals = refl; clock = f; steps = omega arith; windows = omega arith; faint = λ i. omega arith })
-
-pub within-counted : (k n : ℕ) (p q u : Progress) (v : Outcome) (time : Float) (made : ℕ) (squares : List Float) → finite time ≡ true → made ≤ n → q ≡ after-steps p v time made → length squares ≤ k
-    → u ≡ with-faint q (updated counted (q .faint) squares) → Within k n 1 0 p u
-within-counted k n p q u v time made squares f h eq l eu =
-    rw (eu, eq)
-    (record {
-      behind = updated-drop counted (p .faint) squares k l;
-      counts = updated-length counted (p .faint) squares;
-      totals = refl;
-      clock = f;
-      steps = omega arith;
-      windows = omega arith;
-      faint = λ i. counted-more (p .faint) squares i;
-    })
+  pub measured-done : length norms ≡ 32 → k ≤ 16 → length (q .sums) ≡ 16 → q .outcome ≡ Accepted
+      → (p : Progress) (new : List Float) (D w : Float) → p ≡ with-sums q (updated (_⊕_) (q .sums) (take k norms)) → D ≡ h ⊗ as-float n → w ≡ as-float (p .windows)
+      → new ≡ p .time ∷ map (λ y. y ⊘ D) (take k norms) ++ map (λ y. y ⊘ (D ⊗ w)) (take (length (take k norms)) (p .sums))
+      → MeasuredWindow S m k h n H old (held (H′ .state) (H′ .tangents) norms p) new
+  unfolding row accumulate dynamics
+  measured-done l f z v p new D w ep eD ew en =
+      let c : length (take k norms) ≡ k = length-take-le k norms (omega arith) in
+      let s : take k (updated (_⊕_) (q .sums) (take k norms)) ≡ zip (_⊕_) (take k (q .sums)) (take k norms) = updated-take (_⊕_) (q .sums) (take k norms) k c (omega arith) in
+      let ew′ : w ≡ as-float (q .windows + 1) = ew ∙ ap (λ (r : Progress). as-float (r .windows)) ep in
+      let en′ : new ≡ q .time ∷ map (λ y. y ⊘ (h ⊗ as-float n)) (take k norms) ++ map (λ y. y ⊘ ((h ⊗ as-float n) ⊗ as-float (q .windows + 1))) (take k (updated (_⊕_) (q .sums) (take k norms))) =
+      en ∙ rw (ep, eD, ew′, c) in
+      record {
+        row-left = rw (← W .status, v, ep, v, en′, s, add-one);
+        bounded = λ a b x. rw ep (bounded-added (W .bounded a b x) (updated (_⊕_) (q .sums) (take k norms)) (updated-length (_⊕_) (q .sums) (take k norms)));
+      }

@@ -1,51 +1,63 @@
--- A run under way as the code holds it, and the state of the definition that it stands for. Definitions only.
-use Prim.Native.Nat.{ℕ, _+_, _*_, _≤_, _<_, _^_}
-use mathlib.Core.Path.{_≡_}
-use mathlib.Core.Bool.{true}
+-- A run under way as the code holds it, and the state of the definition that it stands for. A reader may skip it. Definitions only.
+use Prim.Native.Nat.{ℕ, _+_}
 use mathlib.Core.List.{List}
-use lib.ListN.{length, take, drop, getD}
-use lib.Seq.{sets}
+use mathlib.Core.Option.{Option, none, some}
+use lib.ListN.{take, drop, replicate}
 use lib.Ieee.{Float}
-use lib.Ieee.Scale.{finite}
-use Rattle.error.specs.Refusal.{refusal, reported}
+use Rattle.error.specs.Refusal.{reported}
 use Rattle.error.specs.declared.LyapunovError.{LyapunovError}
 use Rattle.error.specs.declared.Outcome.{Outcome}
+use Rattle.error.specs.declared.Outcome.the-variants.{Refused}
+use Rattle.error.specs.declared.Refusal.{Refusal}
+use Rattle.floats.specs.Arithmetic.{zero⁺}
 use Rattle.floats.specs.Vector.{chunks}
-use Rattle.system.specs.System.{dim, matrix-fits}
-use Rattle.floats.specs.Finite.{positive}
-use Rattle.system.specs.declared.System.{System}
 use Rattle.gram_schmidt.specs.GramSchmidt.{euclidean}
-use Rattle.benettin.specs.Run.{Dynamics, RunState, RunRefusal, Status, ok, refused, refused-at, Course, faint-or-not, row, accumulate}
-use Rattle.benettin.specs.Estimate.{dynamics}
-use Rattle.benettin.specs.Outputs.{flat-row, flat-rows}
-use Rattle.benettin.specs.Window.{status-of}
-use Rattle.benettin.specs.declared.BenettinConfig.{BenettinConfig}
-use Rattle.estimator.specs.declared.Progress.{Progress}
+use Rattle.benettin.specs.Run.{Motion, Norms, Totals, RunState, Status, ok, refused, refused-at, faint-or-not}
+use Rattle.benettin.specs.declared.SpectrumEstimate.{SpectrumEstimate}
+use Rattle.estimator.specs.declared.progress.Progress.{Progress}
 
-abbrev pub dynamics-of : System → List Float → BenettinConfig → Dynamics
-dynamics-of S m c = dynamics S m (c .«step_size») (c .«steps_per_window»)
+-- ---- what is held
 
--- what the slices of a run and its progress hold, with k directions of d entries; the logarithms and the squared lengths lie one after the other in `norms`
-abbrev pub run-state : ℕ → ℕ → List Float → List Float → List Float → Progress → RunState
-run-state d k x t norms p =
-    record {
-      state = x;
-      directions = chunks d k t;
-      time = p .time;
-      steps = p .steps;
-      finished = p .windows;
-      logs = take k norms;
-      reports = take k (drop k norms);
-      sums = take k (p .sums);
-      faint = take k (p .faint);
-    }
+-- what the slices of a run and its progress hold
+pub record Held : Type 0 where
+  pub state : List Float
+  pub tangents : List Float
+  pub norms : List Float
+  pub progress : Progress
 
-abbrev pub refused-by : LyapunovError → RunState → RunRefusal
-refused-by e c = refused-at (refusal e .number) (refusal e .place) c
+abbrev pub held : List Float → List Float → List Float → Progress → Held
+held x t norms p = record { state = x; tangents = t; norms = norms; progress = p }
 
--- how a run goes on by an outcome
-abbrev pub status : Outcome → RunState → Status
-status v c = status-of (reported v) c
+-- k directions of d entries, one after the other in t
+abbrev pub motion : ℕ → ℕ → List Float → List Float → Float → ℕ → Motion
+motion d k x t time steps = record { state = x; directions = chunks d k t; time = time; steps = steps }
+
+-- the logarithms, then the squared lengths
+abbrev pub norms-of : ℕ → List Float → Norms
+norms-of k norms = record { logs = take k norms; reports = take k (drop k norms) }
+
+abbrev pub totals : ℕ → Progress → Totals
+totals k p = record { finished = p .windows; sums = take k (p .sums); faint = take k (p .faint) }
+
+abbrev pub joined : Motion → Norms → Totals → RunState
+joined m n t = record { motion = m; norms = n; totals = t }
+
+abbrev pub run-state : ℕ → ℕ → Held → RunState
+run-state d k H = let p = H .progress in joined (motion d k (H .state) (H .tangents) (p .time) (p .steps)) (norms-of k (H .norms)) (totals k p)
+
+-- how a run goes on by what is refused
+abbrev pub status-of : Option Refusal → RunState → Status
+status-of none c = ok c
+status-of (some r) c = refused (refused-at (r .number) (r .place) c)
+
+abbrev pub status : ℕ → ℕ → Held → Status
+status d k H = status-of (reported (H .progress .outcome)) (run-state d k H)
+
+-- ---- what is done to it
+
+-- nothing done yet
+abbrev pub fresh : Outcome → Float → Progress
+fresh outcome time = record { outcome = outcome; windows = 0; steps = 0; time = time; faint = replicate 16 0; sums = replicate 16 zero⁺ }
 
 -- p after so many steps more, by an outcome, at another time
 abbrev pub after-steps : Progress → Outcome → Float → ℕ → Progress
@@ -62,49 +74,6 @@ with-sums p s = record { outcome = p .outcome; windows = p .windows + 1; steps =
 abbrev pub counted : ℕ → Float → ℕ
 counted = faint-or-not euclidean
 
--- what windows keep beside the definitions: the counts behind direction k, how many entries there are, a finite time, and bounds
-pub record Within (k made seen done : ℕ) (p q : Progress) : Type 0 where
-  pub behind : drop k (q .faint) ≡ drop k (p .faint)
-  pub counts : length (q .faint) ≡ length (p .faint)
-  pub totals : length (q .sums) ≡ length (p .sums)
-  pub clock : finite (q .time) ≡ true
-  pub steps : q .steps ≤ p .steps + made
-  pub windows : q .windows ≤ p .windows + done
-  pub faint : (i : ℕ) → getD (q .faint) i 0 ≤ getD (p .faint) i 0 + seen
-
--- arrays of 16, a finite time, and room for made steps, seen windows and done measured ones more
-pub record Room (made seen done : ℕ) (p : Progress) : Type 0 where
-  pub counts : length (p .faint) ≡ 16
-  pub totals : length (p .sums) ≡ 16
-  pub clock : finite (p .time) ≡ true
-  pub steps : p .steps + made < 2 ^ 64
-  pub windows : p .windows + done < 2 ^ 32
-  pub faint : (i : ℕ) → getD (p .faint) i 0 + seen < 2 ^ 64
-
--- what fits together: a system, a matrix, a step size, a state, k directions and the slice of their logarithms and squared lengths
-pub record Fitting (S : System) (m : List Float) (h : Float) (x t norms : List Float) (k : ℕ) : Type 0 where
-  pub matrix : matrix-fits S m ≡ true
-  pub size : positive h ≡ true
-  pub state : dim S ≡ length x
-  pub some : 0 < length x
-  pub small : length x ≤ 16
-  pub tangents : length t ≡ k * length x
-  pub few : k ≤ 16
-  pub norms-many : length norms ≡ 32
-
--- the rows slice, and how the run went on
-pub record Recorded : Type 0 where
-  pub rows : List Float
-  pub end : Status
-
-abbrev pub recorded : List Float → Status → Recorded
-recorded rows end = record { rows = rows; end = end }
-
--- rows written from place a of the slice on
-abbrev pub written : List Float → ℕ → Course → Recorded
-written rows a t = recorded (sets rows a (flat-rows (t .rows))) (t .end)
-
--- a measured window: its row, and what is carried on; a refused one leaves the row as it was
-abbrev pub with-row-of : Dynamics → List Float → Status → Recorded
-with-row-of M old (ok c) = recorded (flat-row (row M (accumulate c))) (ok (accumulate c))
-with-row-of M old (refused r) = recorded old (refused r)
+abbrev pub refused-estimate : LyapunovError → ℕ → ℕ → SpectrumEstimate
+refused-estimate e finished steps =
+    record { outcome = Refused e; windows = finished; steps = steps; «final_time» = zero⁺; «measured_time» = zero⁺; faint = replicate 16 0 }

@@ -1,11 +1,69 @@
-// The entry points.
+// The entry points: a run's tests, then begin, the windows and the end of progress.rt.
+ghost use Prim.Native.Nat.{_*_};
+ghost use mathlib.Core.Path.{_≡_};
+ghost use mathlib.Core.Option.{none};
+ghost use lib.ListN.{length};
 ghost use Rattle.floats.specs.Arithmetic.{zero⁺};
+ghost use Rattle.benettin.specs.Run as Run;
 ghost use Rattle.benettin.specs.Estimate as Estimate;
 ghost use Rattle.benettin.specs.Outputs as Outputs;
+ghost use Rattle.benettin.specs.Validation as Validation;
+use crate::progress;
 use benettin::BenettinConfig;
 use benettin::SpectrumEstimate;
 use error::Outcome;
 use system::System;
+
+// The run once the tests are passed.
+fn run(
+    system: System,
+    matrix: &[f64],
+    time: f64,
+    state: &mut [f64],
+    tangents: &mut [f64],
+    rows: &mut [f64],
+    exponents: &mut [f64],
+    final_state: &mut [f64],
+    config: BenettinConfig,
+) -> SpectrumEstimate
+    requires { ⌜ Validation.Ready (Estimate.input system (now matrix) time (now state) config) (config .«top_k») (Outputs.lengths-of (now rows) (now exponents) (now «final_state»))
+        × (length (now tangents) ≡ config .«top_k» * length (now state)) ⌝ }
+    ensures { λ r. ⌜ Outputs.observed r (now (rows .exit)) (now (exponents .exit)) (now («final_state» .exit))
+        ≡ Outputs.outputs (config .windows) (now (rows .entry)) (now (exponents .entry)) (now («final_state» .entry))
+        (Run.run-past none (Estimate.problem (Estimate.input system (now (matrix .entry)) time (now (state .entry)) config)) (config .«top_k»)) ⌝ }
+{
+    let k = config.top_k;
+    let h = config.step_size;
+    let n = config.steps_per_window;
+    let mut norms = [0.0; 32];
+    let begun = progress::begin(state, tangents, &mut norms, k, h, n, time, config.seed);
+    let ready = progress::warm_up(
+        system,
+        matrix,
+        state,
+        tangents,
+        &mut norms,
+        k,
+        h,
+        n,
+        config.transient_windows,
+        begun,
+    );
+    let done = progress::measure(
+        system,
+        matrix,
+        state,
+        tangents,
+        &mut norms,
+        rows,
+        k,
+        h,
+        n,
+        config.windows,
+        ready,
+    );
+    progress::end(state, exponents, final_state, k, h, n, config.windows, done)
+}
 
 // Estimates the leading spectrum from an explicit start time. Rows of 1 + 2 * K floats, one a measured window.
 pub fn estimate_spectrum_at(
@@ -38,7 +96,7 @@ pub fn estimate_spectrum_at(
     let mut moving = [0.0; 16];
     crate::copy_to(&mut moving[..d], state);
     let mut tangents = [0.0; 256];
-    crate::run(
+    run(
         system,
         matrix,
         time,

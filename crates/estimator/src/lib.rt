@@ -1,49 +1,115 @@
-// Benettin's estimate of the leading Lyapunov exponents (source: estimator.rs).
+// Benettin's estimate of the leading Lyapunov exponents (source: estimator.rs): everything that runs, from the draw on.
 //
-// `estimate_spectrum_at` (estimate.rt) is the run that crate benettin defines: its answer and every float left in rows,
-// exponents and final state equal specs/Outputs.antt there, for every input. Its contract is `Meets`, the definition of which
-// specs/Refusals.antt there states demand 1 and specs/LeadingOutputs.antt demand 3. This file has the run from the draw to
-// the answer; crate benettin has the tests, the draw and a single window. The state, the directions, their logarithms and
-// squared lengths lie in arrays on the stack; nothing is allocated.
+// estimate.rt has the entry points. `estimate_spectrum_at` is the run that crate benettin defines: its answer and every float
+// left in rows, exponents and final state equal specs/Outputs.antt there, for every input. Its contract is `Meets`, the
+// definition of which specs/Refusals.antt there states demand 1 and specs/LeadingOutputs.antt demand 3. progress.rt is a run
+// under way: begin, window, end. This file has their parts. The state, the directions, their logarithms and squared lengths
+// lie in arrays on the stack; nothing is allocated.
 pub mod estimate;
+pub mod progress;
 
 ghost use mathlib.Core.Path.{_≡_};
 ghost use Prim.Native.Nat.{ℕ, _+_, _*_, _≤_, _<_, _^_};
 ghost use mathlib.Core.Bool.{true};
 ghost use mathlib.Core.List.{_∷_, _++_, map};
-ghost use mathlib.Core.Option.{none};
 ghost use lib.ListN.{length, take, getD};
 ghost use lib.Ieee.Scale.{finite};
 ghost use Rattle.floats.specs.Arithmetic.{_⊕_, _⊗_, _⊘_};
 ghost use Rattle.floats.specs.Vector.{updated};
 ghost use Rattle.system.specs.System.{dim};
+ghost use Rattle.rk4.specs.Tests as Tests;
+ghost use Rattle.gram_schmidt.specs.GramSchmidt as GramSchmidt;
 ghost use Rattle.benettin.specs.Run as Run;
 ghost use Rattle.benettin.specs.Estimate as Estimate;
-ghost use Rattle.benettin.specs.Outputs as Outputs;
-ghost use Rattle.benettin.specs.Validation as Validation;
-ghost use Rattle.estimator.specs.Progress as Under;
-ghost use Rattle.estimator.specs.Start as Start;
-use benettin::BenettinConfig;
+ghost use Rattle.estimator.specs.Progress as Held;
+ghost use Rattle.estimator.specs.UnderWay as Under;
 use benettin::SpectrumEstimate;
 use error::LyapunovError;
 use error::Outcome;
+use progress::Progress;
 use system::System;
 
-// What a run carries from window to window, beside the state, the directions, their logarithms and squared
-// lengths.
-struct Progress {
+// ---- the basis
+
+// The directions, drawn one entry after the other.
+fn draw_directions(tangents: &mut [f64], seed: u64)
+    ensures { λ _. ⌜ now (tangents .exit) ≡ Run.draws Estimate.splitmix64 (length (now (tangents .entry))) seed ⌝ }
+{
+    let mut state = seed;
+    let mut i = 0;
+    while i < tangents.len() {
+        let draw = splitmix64::SplitMix64::new(state).symmetric_unit();
+        let generator = draw.generator;
+        tangents[i] = draw.value;
+        state = generator.state;
+        i += 1;
+    }
+}
+
+// The drawn directions, orthonormalised.
+fn initialize_basis(tangents: &mut [f64], d: usize, norms: &mut [f64], seed: u64) -> Outcome
+    ensures { λ r. ⌜ GramSchmidt.observed r (now (tangents .exit)) (now (norms .exit)) ≡ GramSchmidt.orthonormalised GramSchmidt.euclidean (Run.draws Estimate.splitmix64 (length (now (tangents .entry))) seed) d (now (norms .entry)) ⌝ }
+{
+    draw_directions(tangents, seed);
+    gram_schmidt::modified_gram_schmidt(tangents, d, norms)
+}
+
+// ---- the steps of a window
+
+// What steps come to: how many were made, and the time after them.
+struct Advance {
     pub outcome: Outcome,
-    pub windows: u64,
     pub steps: u64,
     pub time: f64,
-    pub faint: [u64; 16],
-    pub sums: [f64; 16],
+}
+
+// Makes `n` steps from the time `start` on, up to the first that is refused.
+fn advance_steps(
+    system: System,
+    matrix: &[f64],
+    state: &mut [f64],
+    tangents: &mut [f64],
+    k: usize,
+    h: f64,
+    n: u64,
+    start: f64,
+) -> Advance
+    requires { ⌜ Tests.Passed system (now matrix) (now state) k h × (length (now tangents) ≡ k * dim system) × (finite start ≡ true) ⌝ }
+    ensures { λ r. ⌜ Under.Advanced system (now (matrix .entry)) k h n start (now (state .entry)) (now (tangents .entry)) r (now (state .exit)) (now (tangents .exit)) ⌝ }
+{
+    let mut time = start;
+    let mut i: u64 = 0;
+    while i < n {
+        if let Outcome::Refused(e) = rk4::step(system, matrix, time, state, tangents, k, h) {
+            return Advance {
+                outcome: Outcome::Refused(e),
+                steps: i,
+                time,
+            };
+        }
+        let next = time + h;
+        if floats::is_finite(next) {
+            time = next;
+            i += 1;
+        } else {
+            return Advance {
+                outcome: Outcome::Refused(LyapunovError::InvalidTime),
+                steps: i,
+                time,
+            };
+        }
+    }
+    Advance {
+        outcome: Outcome::Accepted,
+        steps: i,
+        time,
+    }
 }
 
 // The progress after so many steps more, at another time.
 fn after_steps(from: Progress, outcome: Outcome, time: f64, made: u64) -> Progress
     requires { ⌜ from .steps + made < 2 ^ 64 ⌝ }
-    ensures { λ r. ⌜ r ≡ Under.after-steps from outcome time made ⌝ }
+    ensures { λ r. ⌜ r ≡ Held.after-steps from outcome time made ⌝ }
 {
     let faint = from.faint;
     let sums = from.sums;
@@ -60,7 +126,7 @@ fn after_steps(from: Progress, outcome: Outcome, time: f64, made: u64) -> Progre
 // The progress with the faint counts of one window more.
 fn count_faint(from: Progress, squares: &[f64]) -> Progress
     requires { ⌜ (length (now squares) ≤ 16) × ((i : ℕ) → getD (from .faint) i 0 + 1 < 2 ^ 64) × (length (from .faint) ≡ 16) ⌝ }
-    ensures { λ r. ⌜ r ≡ Under.with-faint from (updated Under.counted (from .faint) (now (squares .entry))) ⌝ }
+    ensures { λ r. ⌜ r ≡ Held.with-faint from (updated Held.counted (from .faint) (now (squares .entry))) ⌝ }
 {
     let mut out = from.faint;
     let mut i = 0;
@@ -79,7 +145,7 @@ fn count_faint(from: Progress, squares: &[f64]) -> Progress
 // The progress with one measured window more.
 fn add_logs(from: Progress, logs: &[f64]) -> Progress
     requires { ⌜ (length (now logs) ≤ 16) × (from .windows + 1 < 2 ^ 64) × (length (from .sums) ≡ 16) ⌝ }
-    ensures { λ r. ⌜ r ≡ Under.with-sums from (updated (_⊕_) (from .sums) (now (logs .entry))) ⌝ }
+    ensures { λ r. ⌜ r ≡ Held.with-sums from (updated (_⊕_) (from .sums) (now (logs .entry))) ⌝ }
 {
     let mut out = from.sums;
     let mut i = 0;
@@ -92,6 +158,8 @@ fn add_logs(from: Progress, logs: &[f64]) -> Progress
     p.windows = from.windows + 1;
     p
 }
+
+// ---- a row
 
 // Each value divided by the same number, into a row's part of the same length.
 fn write_rates(row: &mut [f64], values: &[f64], by: f64)
@@ -125,155 +193,19 @@ fn as_float(n: u64) -> f64
     (n as u32) as f64
 }
 
-// The duration of a window.
-fn duration(config: BenettinConfig) -> f64
-    requires { ⌜ config .«steps_per_window» < 2 ^ 32 ⌝ }
-    ensures { λ r. ⌜ r ≡ config .«step_size» ⊗ Run.as-float (config .«steps_per_window») ⌝ }
+// The duration of a window of n steps.
+fn duration(h: f64, n: u64) -> f64
+    requires { ⌜ n < 2 ^ 32 ⌝ }
+    ensures { λ r. ⌜ r ≡ h ⊗ Run.as-float n ⌝ }
 {
-    config.step_size * as_float(config.steps_per_window)
+    h * as_float(n)
 }
 
-// One window: its steps, the orthonormalisation, the faint counts.
-fn window(
-    system: System,
-    matrix: &[f64],
-    state: &mut [f64],
-    tangents: &mut [f64],
-    norms: &mut [f64],
-    config: BenettinConfig,
-    from: Progress,
-) -> Progress
-    requires { ⌜ Under.Fitting system (now matrix) (config .«step_size») (now state) (now tangents) (now norms) (config .«top_k») × Under.Room (config .«steps_per_window») 1 0 from ⌝ }
-    ensures { λ r. ⌜ (Under.status (r .outcome) (Under.run-state (dim system) (config .«top_k») (now (state .exit)) (now (tangents .exit)) (now (norms .exit)) r)
-        ≡ Run.window (Under.dynamics-of system (now (matrix .entry)) config) (config .«steps_per_window») (Under.run-state (dim system) (config .«top_k») (now (state .entry)) (now (tangents .entry)) (now (norms .entry)) from))
-        × Under.Within (config .«top_k») (config .«steps_per_window») 1 0 from r ⌝ }
-{
-    let a = benettin::window::complete_window(
-        system,
-        matrix,
-        state,
-        tangents,
-        norms,
-        config,
-        from.time,
-    );
-    let v = a.outcome;
-    let q = after_steps(from, v, a.time, a.steps);
-    let Outcome::Accepted = v else {
-        return q;
-    };
-    let k = config.top_k;
-    let e = k + k;
-    count_faint(q, &norms[k..e])
-}
-
-// The warm-up windows.
-fn warm_up(
-    system: System,
-    matrix: &[f64],
-    state: &mut [f64],
-    tangents: &mut [f64],
-    norms: &mut [f64],
-    config: BenettinConfig,
-    from: Progress,
-) -> Progress
-    requires { ⌜ Under.Fitting system (now matrix) (config .«step_size») (now state) (now tangents) (now norms) (config .«top_k»)
-        × Under.Room (config .«transient_windows» * config .«steps_per_window») (config .«transient_windows») 0 from × (from .outcome ≡ Outcome.Accepted) ⌝ }
-    ensures { λ r. ⌜ (Under.status (r .outcome) (Under.run-state (dim system) (config .«top_k») (now (state .exit)) (now (tangents .exit)) (now (norms .exit)) r)
-        ≡ Run.warm-up (Under.dynamics-of system (now (matrix .entry)) config) (config .«steps_per_window») (config .«transient_windows») (Under.run-state (dim system) (config .«top_k») (now (state .entry)) (now (tangents .entry)) (now (norms .entry)) from))
-        × Under.Within (config .«top_k») (config .«transient_windows» * config .«steps_per_window») (config .«transient_windows») 0 from r ⌝ }
-{
-    let mut p = from;
-    let mut w: u64 = 0;
-    while w < config.transient_windows {
-        p = window(system, matrix, state, tangents, norms, config, p);
-        let v = p.outcome;
-        let Outcome::Accepted = v else {
-            return p;
-        };
-        w += 1;
-    }
-    p
-}
-
-// One measured window: the sums, and its row.
-fn measured_window(
-    system: System,
-    matrix: &[f64],
-    state: &mut [f64],
-    tangents: &mut [f64],
-    norms: &mut [f64],
-    row: &mut [f64],
-    config: BenettinConfig,
-    from: Progress,
-) -> Progress
-    requires { ⌜ Under.Fitting system (now matrix) (config .«step_size») (now state) (now tangents) (now norms) (config .«top_k») × Under.Room (config .«steps_per_window») 1 1 from
-        × (length (now row) ≡ 1 + 2 * config .«top_k») × (config .«steps_per_window» < 2 ^ 32) ⌝ }
-    ensures { λ r. ⌜ (Under.recorded (now (row .exit)) (Under.status (r .outcome) (Under.run-state (dim system) (config .«top_k») (now (state .exit)) (now (tangents .exit)) (now (norms .exit)) r))
-        ≡ Under.with-row-of (Under.dynamics-of system (now (matrix .entry)) config) (now (row .entry))
-        (Run.window (Under.dynamics-of system (now (matrix .entry)) config) (config .«steps_per_window») (Under.run-state (dim system) (config .«top_k») (now (state .entry)) (now (tangents .entry)) (now (norms .entry)) from)))
-        × Under.Within (config .«top_k») (config .«steps_per_window») 1 1 from r ⌝ }
-{
-    let q = window(system, matrix, state, tangents, norms, config, from);
-    let v = q.outcome;
-    let Outcome::Accepted = v else {
-        return q;
-    };
-    let k = config.top_k;
-    let p = add_logs(q, &norms[..k]);
-    let length = duration(config);
-    let elapsed = length * as_float(p.windows);
-    write_row(row, &norms[..k], p, length, elapsed);
-    p
-}
-
-// The measured windows, if nothing is refused yet: each is lent its row of the rows slice.
-fn measure(
-    system: System,
-    matrix: &[f64],
-    state: &mut [f64],
-    tangents: &mut [f64],
-    norms: &mut [f64],
-    rows: &mut [f64],
-    config: BenettinConfig,
-    from: Progress,
-) -> Progress
-    requires { ⌜ Under.Fitting system (now matrix) (config .«step_size») (now state) (now tangents) (now norms) (config .«top_k»)
-        × Under.Room (config .windows * config .«steps_per_window») (config .windows) (config .windows) from
-        × (config .windows * (1 + 2 * config .«top_k») ≤ length (now rows)) × (config .«steps_per_window» < 2 ^ 32) ⌝ }
-    ensures { λ r. ⌜ (Under.recorded (now (rows .exit)) (Under.status (r .outcome) (Under.run-state (dim system) (config .«top_k») (now (state .exit)) (now (tangents .exit)) (now (norms .exit)) r))
-        ≡ Under.written (now (rows .entry)) 0 (Run.measured-from (Under.dynamics-of system (now (matrix .entry)) config) (config .«steps_per_window») (config .windows) (Under.status (from .outcome) (Under.run-state (dim system) (config .«top_k») (now (state .entry)) (now (tangents .entry)) (now (norms .entry)) from))))
-        × Under.Within (config .«top_k») (config .windows * config .«steps_per_window») (config .windows) (config .windows) from r ⌝ }
-{
-    let width = 1 + 2 * config.top_k;
-    let mut p = from;
-    let mut w: u64 = 0;
-    let mut a = 0;
-    while w < config.windows {
-        let v = p.outcome;
-        let Outcome::Accepted = v else {
-            return p;
-        };
-        let e = a + width;
-        p = measured_window(
-            system,
-            matrix,
-            state,
-            tangents,
-            norms,
-            &mut rows[a..e],
-            config,
-            p,
-        );
-        w += 1;
-        a = e;
-    }
-    p
-}
+// ---- the start and the end
 
 // Nothing done yet.
 fn fresh(outcome: Outcome, time: f64) -> Progress
-    ensures { λ r. ⌜ r ≡ Start.fresh outcome time ⌝ }
+    ensures { λ r. ⌜ r ≡ Held.fresh outcome time ⌝ }
 {
     Progress {
         outcome,
@@ -282,38 +214,6 @@ fn fresh(outcome: Outcome, time: f64) -> Progress
         time,
         faint: [0u64; 16],
         sums: [0.0; 16],
-    }
-}
-
-// From the draw to the first measured window. The duration of a window is tested once the basis is drawn.
-fn prepare(
-    system: System,
-    matrix: &[f64],
-    time: f64,
-    state: &mut [f64],
-    tangents: &mut [f64],
-    norms: &mut [f64],
-    config: BenettinConfig,
-) -> Progress
-    requires { ⌜ Under.Fitting system (now matrix) (config .«step_size») (now state) (now tangents) (now norms) (config .«top_k»)
-        × (config .«steps_per_window» ≤ Estimate.limit) × (config .«transient_windows» ≤ Estimate.limit) × (finite time ≡ true) ⌝ }
-    ensures { λ r. ⌜ (Under.status (r .outcome) (Under.run-state (dim system) (config .«top_k») (now (state .exit)) (now (tangents .exit)) (now (norms .exit)) r)
-        ≡ Run.warmed-up (Under.dynamics-of system (now (matrix .entry)) config) (config .«steps_per_window») (config .«transient_windows») (Run.initial Estimate.splitmix64 (dim system) (now (state .entry)) time (config .seed) (config .«top_k»)))
-        × Under.Within (config .«top_k») (config .«transient_windows» * config .«steps_per_window») (config .«transient_windows») 0 (Start.fresh Outcome.Accepted time) r ⌝ }
-{
-    if let Outcome::Refused(e) = benettin::basis::initialize_basis(
-        tangents,
-        state.len(),
-        norms,
-        config.seed,
-    ) {
-        return fresh(Outcome::Refused(e), time);
-    }
-    if floats::is_finite(duration(config)) {
-        let from = fresh(Outcome::Accepted, time);
-        warm_up(system, matrix, state, tangents, norms, config, from)
-    } else {
-        fresh(Outcome::Refused(LyapunovError::InvalidWindowDuration), time)
     }
 }
 
@@ -329,7 +229,7 @@ fn copy_to(out: &mut [f64], from: &[f64])
 }
 
 fn refused(error: LyapunovError, windows: u64, steps: u64) -> SpectrumEstimate
-    ensures { λ r. ⌜ r ≡ Start.refused-estimate error windows steps ⌝ }
+    ensures { λ r. ⌜ r ≡ Held.refused-estimate error windows steps ⌝ }
 {
     SpectrumEstimate {
         outcome: Outcome::Refused(error),
@@ -339,71 +239,4 @@ fn refused(error: LyapunovError, windows: u64, steps: u64) -> SpectrumEstimate
         measured_time: 0.0,
         faint: [0u64; 16],
     }
-}
-
-// The answer of a run, and what it writes to two outputs.
-fn close(
-    state: &[f64],
-    config: BenettinConfig,
-    exponents: &mut [f64],
-    final_state: &mut [f64],
-    done: Progress,
-) -> SpectrumEstimate
-    requires { ⌜ (config .«top_k» ≤ 16) × (config .«top_k» ≤ length (now exponents)) × (length (now state) ≤ length (now «final_state»))
-        × (config .«steps_per_window» ≤ Estimate.limit) × (config .windows ≤ Estimate.limit) × (length (done .sums) ≡ 16) ⌝ }
-    ensures { λ r. ⌜ Start.closed r (now (exponents .exit)) (now («final_state» .exit))
-        ≡ Start.closing (done .outcome) (config .«step_size» ⊗ Run.as-float (config .«steps_per_window»)) (config .«top_k») (config .windows) (now (exponents .entry)) (now («final_state» .entry)) (now (state .entry)) done ⌝ }
-{
-    let v = done.outcome;
-    if let Outcome::Refused(e) = v {
-        return refused(e, done.windows, done.steps);
-    }
-    let measured = duration(config) * as_float(config.windows);
-    let sums = done.sums;
-    let k = config.top_k;
-    write_rates(&mut exponents[..k], &sums[..k], measured);
-    let d = state.len();
-    copy_to(&mut final_state[..d], state);
-    let faint = done.faint;
-    SpectrumEstimate {
-        outcome: Outcome::Accepted,
-        windows: config.windows,
-        steps: done.steps,
-        final_time: done.time,
-        measured_time: measured,
-        faint,
-    }
-}
-
-// The run once the tests are passed.
-fn run(
-    system: System,
-    matrix: &[f64],
-    time: f64,
-    state: &mut [f64],
-    tangents: &mut [f64],
-    rows: &mut [f64],
-    exponents: &mut [f64],
-    final_state: &mut [f64],
-    config: BenettinConfig,
-) -> SpectrumEstimate
-    requires { ⌜ Validation.Ready system (now matrix) (config .«step_size») time (now state) (config .«top_k») (config .«steps_per_window») (config .windows) (config .«transient_windows») × (length (now tangents) ≡ config .«top_k» * length (now state))
-        × (config .windows * (1 + 2 * config .«top_k») ≤ length (now rows)) × (config .«top_k» ≤ length (now exponents)) × (length (now state) ≤ length (now «final_state»)) ⌝ }
-    ensures { λ r. ⌜ Outputs.observed r (now (rows .exit)) (now (exponents .exit)) (now («final_state» .exit))
-        ≡ Outputs.outputs (config .windows) (now (rows .entry)) (now (exponents .entry)) (now («final_state» .entry))
-        (Run.run-past none (Estimate.problem (Estimate.input system (now (matrix .entry)) time (now (state .entry)) config)) (config .«top_k»)) ⌝ }
-{
-    let mut norms = [0.0; 32];
-    let ready = prepare(system, matrix, time, state, tangents, &mut norms, config);
-    let done = measure(
-        system,
-        matrix,
-        state,
-        tangents,
-        &mut norms,
-        rows,
-        config,
-        ready,
-    );
-    close(state, config, exponents, final_state, done)
 }

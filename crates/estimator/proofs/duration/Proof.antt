@@ -10,7 +10,7 @@ as-float-requires : tie.Need-as-float-requires
 as-float-requires c κs = search needs
 
 returns : tie.Need-returns
-returns c = ap (λ (x : Float). c .before .before .args .config .«step_size» ⊗ x) (c .before .as-float .ensures)
+returns c = ap (λ (x : Float). c .before .args .h ⊗ x) (c .as-float .ensures)
 
 pub duration-spec : {M : Type 1} → statement M
 duration-spec = tie.close (tie.spec as-float-requires returns)

@@ -1,8 +1,8 @@
 -- `estimator::estimate::estimate_spectrum_at` meets its contract.
 use borrow.Author.Needs.{needs}
-use Prim.Native.Nat.{ℕ, _+_, _*_, _≤_}
+use Prim.Native.Nat.{ℕ, _*_, _≤_}
 use native.Mathlib.Omega.{arith}
-use mathlib.Core.Path.{_≡_, sym, ap, _∙_}
+use mathlib.Core.Path.{_≡_, sym, ap, subst, _∙_}
 use mathlib.Core.List.{List, _++_}
 use mathlib.Core.Option.{none}
 use lib.ListN.{length, take, length-append}
@@ -15,7 +15,7 @@ use Rattle.benettin.specs.Run.{OutputLengths, run-tests, run-past}
 use Rattle.benettin.specs.Outputs.{lengths-of, outputs}
 use Rattle.benettin.specs.Validation.{Ready}
 use Rattle.benettin.proofs.RunTests.{ready}
-use Rattle.estimator.proofs.Answers.{refused-by-tests, run-by-tests, front, few-entries, ready-front}
+use Rattle.estimator.proofs.Ending.{refused-by-tests, run-by-tests, front, few-entries}
 use Rattle.estimator.proofs.estimate.estimate_spectrum_at.Statement.{statement}
 use Rattle.estimator.proofs.estimate.estimate_spectrum_at.Tie as tie
 
@@ -39,12 +39,14 @@ module _ (c : tie.After-enum-told) where
   passed : none ≡ first-failing (run-tests (problem (input-of s)) k o)
   passed = sym (ap reported (c .enum-told .given .1)) ∙ c .before .before .validate .ensures
 
-  known : Ready (s .args .system) (s .args .matrix .now) (s .args .config .«step_size») (s .args .time) (s .args .state .now) k (s .args .config .«steps_per_window») (s .args .config .windows) (s .args .config .«transient_windows»)
-      × (s .args .config .windows * (1 + 2 * k) ≤ o .rows) × (k ≤ o .exponents) × (d ≤ o .state)
+  known : Ready (input-of s) k o
   known = ready (input-of s) k o passed
 
+  small : d ≤ 16
+  small = omega (arith, known .step .state, known .step .dimension-within)
+
   entries : k * d ≤ 256
-  entries = few-entries k d (known .0 .directions) (known .0 .small)
+  entries = few-entries k d (omega (arith, known .step .state, known .directions)) small
 
 -- the tests that are before the copy of the state, and the front of the array that it was copied to
 abbrev tested : tie.After-copy-to → tie.After-enum-told
@@ -76,13 +78,13 @@ mul-kd : tie.Need-mul-kd
 mul-kd c = omega (arith, entries (c .before))
 
 array-borrow-prefix-moving : tie.Need-array-borrow-prefix-moving
-array-borrow-prefix-moving c = known (c .before) .0 .small
+array-borrow-prefix-moving c = small (c .before)
 
 slice-aggregate-copy-to : tie.Need-slice-aggregate-copy-to
-slice-aggregate-copy-to c = sym (length-take-le _ _ (known (c .before .before) .0 .small))
+slice-aggregate-copy-to c = sym (length-take-le _ _ (small (c .before .before)))
 
 copy-to-requires : tie.Need-copy-to-requires
-copy-to-requires c κs = length-take-le _ _ (known (c .before .before) .0 .small)
+copy-to-requires c κs = length-take-le _ _ (small (c .before .before))
 
 array-borrow-prefix-moving-2 : tie.Need-array-borrow-prefix-moving-2
 array-borrow-prefix-moving-2 c = simp length-append (omega (arith, ap length (c .before .copy-to .ensures)))
@@ -100,8 +102,10 @@ run-requires : tie.Need-run-requires
 run-requires c κs =
     let b = c .before .before .before .before .before .before in
     let e = copied b _ in
-    let n = known (tested b) in
-    (ready-front _ _ _ _ _ _ _ _ _ _ e (n .0), length-take-le _ _ (entries (tested b)) ∙ rw e, n .1, n .2, rw e (n .3))
+    let a = s (tested b) .args in (
+      subst (λ (x : List Float). Ready (input (a .system) (a .matrix .now) (a .time) x (a .config)) (a .config .«top_k») (o (tested b))) (sym e) (known (tested b)),
+      length-take-le _ _ (entries (tested b)) ∙ rw e,
+    )
 
 same-length : tie.Need-same-length
 same-length c = search needs

@@ -1,4 +1,4 @@
--- `benettin::basis::draw_directions` meets its contract. The loop's invariant: the draws are those written and those still to come from the state.
+-- `estimator::draw_directions` meets its contract. The loop's invariant: the draws are those written and those still to come from the state.
 use borrow.Author.Needs.{needs}
 use native.Mathlib.Omega.{arith}
 use native.Mathlib.Nat.{sub-zero}
@@ -8,11 +8,11 @@ use mathlib.Core.List.{_++_}
 use lib.ListN.{length, take, length-set}
 use Rattle.splitmix64.specs.declared.Draw.{Draw}
 use Rattle.splitmix64.specs.Mix.{symmetric-unit}
 use Rattle.benettin.specs.Run.{draws}
 use Rattle.benettin.specs.Estimate.{splitmix64}
-use Rattle.benettin.proofs.Draws.{draws-iteration, draws-end}
-use Rattle.benettin.proofs.basis.draw_directions.Statement.{statement}
-use Rattle.benettin.proofs.basis.draw_directions.Tie as tie
+use Rattle.estimator.proofs.Draws.{draws-iteration, draws-end}
+use Rattle.estimator.proofs.draw_directions.Statement.{statement}
+use Rattle.estimator.proofs.draw_directions.Tie as tie
 
 abbrev Inv-loop : tie.InvT-loop
 Inv-loop tangents₀ seed state₀ i₀ tangents state i =

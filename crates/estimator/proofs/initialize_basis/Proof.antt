@@ -1,11 +1,11 @@
--- `benettin::basis::initialize_basis` meets its contract.
+-- `estimator::initialize_basis` meets its contract.
 use borrow.Author.Needs.{needs}
 use mathlib.Core.Path.{ap, _∙_}
 use mathlib.Core.List.{List}
 use lib.Ieee.{Float}
-use Rattle.gram_schmidt.specs.GramSchmidt.{orthonormalised}
-use Rattle.benettin.proofs.basis.initialize_basis.Statement.{statement}
-use Rattle.benettin.proofs.basis.initialize_basis.Tie as tie
+use Rattle.gram_schmidt.specs.GramSchmidt.{euclidean, orthonormalised}
+use Rattle.estimator.proofs.initialize_basis.Statement.{statement}
+use Rattle.estimator.proofs.initialize_basis.Tie as tie
 
 draw-directions-requires : tie.Need-draw-directions-requires
 draw-directions-requires c κs = search needs
@@ -23,7 +23,7 @@ returns : tie.Need-returns
 returns c =
     let g = c .before .before .before .before in
     let a = g .before .before .before .before .before .before .before .before .before .args in
-    g .modified-gram-schmidt .ensures ∙ ap (λ (t : List Float). orthonormalised t (a .d) (a .norms .now)) (g .before .before .before .before .before .draw-directions .ensures)
+    g .modified-gram-schmidt .ensures ∙ ap (λ (t : List Float). orthonormalised euclidean t (a .d) (a .norms .now)) (g .before .before .before .before .before .draw-directions .ensures)
 
 pub initialize-basis-spec : {M : Type 1} → statement M
 initialize-basis-spec =

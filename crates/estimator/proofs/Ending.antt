@@ -1,0 +1,146 @@
+-- The begin and the end of a run, and what the tests decide.
+use Prim.Native.Nat.{ℕ, _*_, _≤_, _<_}
+use native.Mathlib.Nat.{mul-le-mul-right, mul-le-mul-left, le-trans}
+use native.Mathlib.Omega.{arith}
+use mathlib.Core.Path.{_≡_, refl, sym, ap, _∙_}
+use mathlib.Core.Bool.{true, false}
+use mathlib.Core.List.{List, [], _++_, map}
+use mathlib.Core.Option.{Option, none, some}
+use lib.ListN.{length, take, drop, take-append-drop, length-map}
+use lib.Seq.{sets, take-append-seam, length-take-le}
+use lib.Ieee.{Float}
+use lib.Ieee.Scale.{finite}
+use Rattle.error.specs.Refusal.{refusal, reported}
+use Rattle.error.specs.Tests.{first-failing}
+use Rattle.error.specs.declared.LyapunovError.{LyapunovError}
+use Rattle.error.specs.declared.LyapunovError.the-variants.{InvalidWindowDuration}
+use Rattle.error.specs.declared.Outcome.{Outcome}
+use Rattle.error.specs.declared.Outcome.the-variants.{Accepted, Refused}
+use Rattle.error.specs.declared.Refusal.{Refusal}
+use Rattle.floats.specs.Arithmetic.{_⊗_, _⊘_, zero⁺}
+use Rattle.floats.proofs.Sets.{drop-replicate}
+use Rattle.gram_schmidt.specs.GramSchmidt as GramSchmidt
+use Rattle.gram_schmidt.specs.GramSchmidt.{euclidean, orthonormalised}
+use Rattle.gram_schmidt.proofs.Finished.{sets-start}
+use Rattle.system.specs.System.{dim}
+use Rattle.system.specs.declared.System.{System}
+use Rattle.benettin.specs.Run.{Dynamics, RunState, Course, Status, ok, begin, check-duration, reorthonormalise, warmed-up, measured-from, course, course-of, initial, draws, as-float, answer, run-tests, run-past, run, _then_}
+use Rattle.benettin.specs.Estimate.{Input, dynamics, splitmix64, problem, estimate}
+use Rattle.benettin.specs.Outputs.{Estimated, estimated, outputs, observed, sixteen, lengths-of, flat-rows}
+use Rattle.benettin.specs.declared.SpectrumEstimate.{SpectrumEstimate}
+use Rattle.benettin.proofs.Prefix.{draws-length, take-replicate}
+use Rattle.benettin.proofs.Reading.{none-faint}
+use Rattle.estimator.specs.Progress.{Held, held, motion, norms-of, joined, run-state, status, status-of, fresh, refused-estimate}
+use Rattle.estimator.specs.UnderWay.{Bounded, Begun, WarmedUp, MeasuredWindows, Ended, Recorded, written}
+use Rattle.estimator.specs.declared.progress.Progress.{Progress}
+use Rattle.estimator.proofs.Basis.{reorthonormalised}
+use Rattle.estimator.proofs.Bounds.{bounded-fresh}
+use Rattle.estimator.proofs.Draws.{drawn-are}
+
+-- ---- the begin
+
+module _ (x t norms : List Float) (k : ℕ) (h : Float) (n : ℕ) (time : Float) (seed : ℕ) (some : 0 < length x) (few : k ≤ 16) (l : length t ≡ k * length x) (m : length norms ≡ 32) (τ : finite time ≡ true)
+    (r : Outcome) (t′ norms′ : List Float) (e : GramSchmidt.observed r t′ norms′ ≡ orthonormalised euclidean (draws splitmix64 (length t) seed) (length x) norms) where
+  -- by how the orthonormalisation ended
+  basis-is : (S : System) (M : List Float) → length x ≡ dim S
+      → status (dim S) k (held x t′ norms′ (fresh r time)) ≡ reorthonormalise (dynamics S M h n) (initial splitmix64 (dim S) x time seed k)
+  unfolding initial dynamics
+  basis-is S M d =
+      let e′ : GramSchmidt.observed r t′ norms′ ≡ orthonormalised euclidean (draws splitmix64 (k * dim S) seed) (dim S) norms = e ∙ rw (l, d) in
+      let z : 0 < dim S = omega arith in
+      let R =
+      reorthonormalised (dim S) k (draws splitmix64 (k * dim S) seed) norms z few (draws-length splitmix64 (k * dim S) seed) m r t′ norms′ e′ (dynamics S M h n) refl x time 0
+      (record { logs = []; reports = [] }) (record { finished = 0; sums = take k (fresh r time .sums); faint = take k (fresh r time .faint) }) in
+      R ∙ rw (drawn-are splitmix64 (dim S) k seed, take-replicate zero⁺ k 16 few, take-replicate {A = ℕ} 0 k 16 few)
+
+  pub begun-14 : (ε : LyapunovError) (p : Progress) → p ≡ fresh (Refused ε) time → r ≡ Refused ε → Begun k h n time seed (held x t′ norms′ p)
+  unfolding begin _then_
+  begun-14 ε p g f = record { status = λ S M d. rw g (go S M d (basis-is S M d)); bounded = rw g (bounded-fresh (Refused ε) τ) }
+    where
+      go : (S : System) (M : List Float) → length x ≡ dim S → status (dim S) k (held x t′ norms′ (fresh r time)) ≡ reorthonormalise (dynamics S M h n) (initial splitmix64 (dim S) x time seed k)
+          → status (dim S) k (held x t′ norms′ (fresh (Refused ε) time)) ≡ (reorthonormalise (dynamics S M h n) (initial splitmix64 (dim S) x time seed k) then check-duration (dynamics S M h n))
+      go S M d b = rw (← b, f)
+
+  module _ (f : r ≡ Accepted) (u : Float) (ν : u ≡ h ⊗ as-float n) where
+    begun-by : (S : System) (M : List Float) → length x ≡ dim S → begin (dynamics S M h n) (initial splitmix64 (dim S) x time seed k) ≡ check-duration (dynamics S M h n) (run-state (dim S) k (held x t′ norms′ (fresh Accepted time)))
+    unfolding begin _then_
+    begun-by S M d = rw (← basis-is S M d, f)
+
+    pub begun-15 : (p : Progress) → p ≡ fresh (Refused InvalidWindowDuration) time → finite u ≡ false → Begun k h n time seed (held x t′ norms′ p)
+    unfolding check-duration dynamics
+    begun-15 p g b =
+        let b′ : finite (h ⊗ as-float n) ≡ false = rw ν at b in
+        record { status = λ S M d. rw g (rw (begun-by S M d, b′)); bounded = rw g (bounded-fresh (Refused InvalidWindowDuration) τ) }
+
+    pub begun : (p : Progress) → p ≡ fresh Accepted time → finite u ≡ true → Begun k h n time seed (held x t′ norms′ p)
+    unfolding check-duration dynamics
+    begun p g b =
+        let b′ : finite (h ⊗ as-float n) ≡ true = rw ν at b in
+        record { status = λ S M d. rw g (rw (begun-by S M d, b′)); bounded = rw g (bounded-fresh Accepted τ) }
+
+-- ---- the end
+
+module _ {k a c : ℕ} {p : Progress} (b : Bounded k a c p) (few : k ≤ 16) (D : Float) (W : ℕ) (x es fs : List Float) where
+  faint-is : p .faint ≡ sixteen (take k (p .faint))
+  faint-is =
+      let z : length (take k (p .faint)) ≡ k = length-take-le k (p .faint) (omega (arith, b .counts)) in
+      sym (take-append-drop k (p .faint)) ∙ ap (λ (z : List ℕ). take k (p .faint) ++ z) (b .behind ∙ drop-replicate {A = ℕ} 0 k 16 few ∙ rw z)
+
+  pub end-refused : (ε : LyapunovError) (r : SpectrumEstimate) → p .outcome ≡ Refused ε → r ≡ refused-estimate ε (p .windows) (p .steps) → Ended k D W x p es fs r es fs
+  unfolding outputs answer
+  end-refused ε r v e M d t norms rows rs δ = rw (v, e, none-faint k)
+
+  pub end-done : (u w : Float) (us y : List Float) → p .outcome ≡ Accepted → u ≡ D → w ≡ as-float W → k ≤ length es → length x ≤ length fs → us ≡ map (λ s. s ⊘ (u ⊗ w)) (take k (p .sums)) → y ≡ x
+      → Ended k D W x p es fs (record { outcome = Accepted; windows = W; steps = p .steps; «final_time» = p .time; «measured_time» = u ⊗ w; faint = p .faint }) (us ++ drop k es) (y ++ drop (length x) fs)
+  unfolding outputs answer
+  end-done u w us y v eu ew ke kf eus ey M d t norms rows rs δ =
+      let l : length us ≡ k = ap length eus ∙ length-map (take k (p .sums)) _ ∙ length-take-le k (p .sums) (omega (arith, b .sums)) in
+      let A : sets es 0 us ≡ us ++ drop k es = sets-start us es (omega arith) ∙ rw l in
+      let B : sets fs 0 x ≡ x ++ drop (length x) fs = sets-start x fs kf in
+      let eus′ : us ≡ map (λ s. s ⊘ (D ⊗ as-float W)) (take k (p .sums)) = rw (eu, ew) at eus in
+      rw (v, ey, δ, B, ← eus′, A, eu, ew, ← faint-is)
+
+-- ---- the run once the tests are passed
+
+pub run-is : (i : Input) (K : ℕ) {H₁ H₂ H₃ : Held} {rows rows′ : List Float} (es fs es′ fs′ : List Float) (r : SpectrumEstimate) → length (i .state) ≡ dim (i .system) → H₁ .state ≡ i .state
+    → Begun K (i .step-size) (i .steps) (i .time) (i .seed) H₁
+    → WarmedUp (i .system) (i .matrix) K (i .step-size) (i .steps) (i .warm-up) H₁ H₂
+    → MeasuredWindows (i .system) (i .matrix) K (i .step-size) (i .steps) (i .windows) H₂ rows H₃ rows′
+    → Ended K (i .step-size ⊗ as-float (i .steps)) (i .windows) (H₃ .state) (H₃ .progress) es fs r es′ fs′
+    → observed r rows′ es′ fs′ ≡ outputs (i .windows) rows es fs (run-past none (problem i) K)
+unfolding run-past problem dynamics course warmed-up
+run-is i K {H₁} {H₂} {H₃} {rows} {rows′} es fs es′ fs′ r d s B U X E =
+    let M = dynamics (i .system) (i .matrix) (i .step-size) (i .steps) in
+    let c = initial splitmix64 (dim (i .system)) (i .state) (i .time) (i .seed) K in
+    let T = course M (i .steps) (i .warm-up) (i .steps) (i .windows) c in
+    let b : status (dim (i .system)) K H₁ ≡ begin M c = B .status (i .system) (i .matrix) (ap length s ∙ d) ∙ rw s in
+    let t : written rows 0 (measured-from M (i .steps) (i .windows) (status (dim (i .system)) K H₂)) ≡ written rows 0 T = rw (U .status, b) in
+    let A : rows′ ≡ sets rows 0 (flat-rows (T .rows)) = ap (λ (y : Recorded). y .rows) (X .rows-left ∙ t) in
+    let C : status (dim (i .system)) K H₃ ≡ T .end = ap (λ (y : Recorded). y .end) (X .rows-left ∙ t) in
+    rw (A, ← C) (E M (dim (i .system)) (H₃ .tangents) (H₃ .norms) rows (T .rows) refl)
+
+-- ---- what the tests decide
+
+module _ (i : Input) (K : ℕ) (rows es fs : List Float) where
+  abbrev tests-of : Option Refusal
+  tests-of = first-failing (run-tests (problem i) K (lengths-of rows es fs))
+
+  refused-past : (o : Option Refusal) (ε : LyapunovError) → some (refusal ε) ≡ o → observed (refused-estimate ε 0 0) rows es fs ≡ outputs (i .windows) rows es fs (run-past o (problem i) K)
+  unfolding outputs run-past flat-rows
+  refused-past o ε e = rw (← e, none-faint K)
+
+  pub refused-by-tests : (ε : LyapunovError) (r : SpectrumEstimate) → r ≡ refused-estimate ε 0 0 → some (refusal ε) ≡ tests-of → observed r rows es fs ≡ estimated i K rows es fs
+  unfolding estimated estimate run
+  refused-by-tests ε r e h = ap (λ (z : SpectrumEstimate). observed z rows es fs) e ∙ refused-past tests-of ε h
+
+  pub run-by-tests : (X : Estimated) → none ≡ tests-of → X ≡ outputs (i .windows) rows es fs (run-past none (problem i) K) → X ≡ estimated i K rows es fs
+  unfolding estimated estimate run
+  run-by-tests X a b = b ∙ rw (← a)
+
+-- ---- the state and the directions, at the front of their arrays
+
+pub front : (x y z : List Float) → y ≡ x → take (length x) (y ++ z) ≡ x
+front x y z e = rw e (take-append-seam x z)
+
+pub few-entries : (k d : ℕ) → k ≤ d → d ≤ 16 → k * d ≤ 256
+few-entries k d h g = let f : k ≤ 16 = omega arith in le-trans (mul-le-mul-right d f) (mul-le-mul-left 16 g)

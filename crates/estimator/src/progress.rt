@@ -1,0 +1,222 @@
+// A run under way: begin, one window, one measured window with its row, the end. The entry points are in estimate.rt.
+//
+// These functions are `pub` because other crates of ours go on with a run: each has a `requires`, which says what passed the
+// tests and how long the slices are. What a run carries lies in a `Progress` and in three slices: the state, the directions
+// one after the other, and their logarithms and squared lengths. specs/Progress.antt says which state of a run that stands
+// for, specs/UnderWay.antt what each function leaves.
+ghost use Prim.Native.Nat.{_*_, _≤_, _<_, _+_};
+ghost use mathlib.Core.Path.{_≡_};
+ghost use mathlib.Core.Bool.{true};
+ghost use lib.ListN.{length};
+ghost use lib.Ieee.Scale.{finite};
+ghost use Rattle.floats.specs.Arithmetic.{_⊗_};
+ghost use Rattle.benettin.specs.Run as Run;
+ghost use Rattle.benettin.specs.Estimate.{limit};
+ghost use Rattle.estimator.specs.Progress.{held};
+ghost use Rattle.estimator.specs.UnderWay as Under;
+use benettin::SpectrumEstimate;
+use error::LyapunovError;
+use error::Outcome;
+use system::System;
+
+// What a run carries from window to window, beside the three slices.
+pub struct Progress {
+    pub outcome: Outcome,
+    pub windows: u64,
+    pub steps: u64,
+    pub time: f64,
+    pub faint: [u64; 16],
+    pub sums: [f64; 16],
+}
+
+// The directions are drawn and orthonormalised (14), then the duration of a window of n steps is tested (15).
+pub fn begin(
+    state: &[f64],
+    tangents: &mut [f64],
+    norms: &mut [f64],
+    k: usize,
+    h: f64,
+    n: u64,
+    time: f64,
+    seed: u64,
+) -> Progress
+    requires { ⌜ (0 < length (now state)) × (k ≤ 16) × (length (now tangents) ≡ k * length (now state)) × (length (now norms) ≡ 32) × (n ≤ limit) × (finite time ≡ true) ⌝ }
+    ensures { λ r. ⌜ Under.Begun k h n time seed (held (now (state .entry)) (now (tangents .exit)) (now (norms .exit)) r) ⌝ }
+{
+    if let Outcome::Refused(e) = crate::initialize_basis(tangents, state.len(), norms, seed) {
+        return crate::fresh(Outcome::Refused(e), time);
+    }
+    if floats::is_finite(crate::duration(h, n)) {
+        crate::fresh(Outcome::Accepted, time)
+    } else {
+        crate::fresh(Outcome::Refused(LyapunovError::InvalidWindowDuration), time)
+    }
+}
+
+// One window, as a warm-up window is: its steps, the orthonormalisation, the faint counts.
+pub fn window(
+    system: System,
+    matrix: &[f64],
+    state: &mut [f64],
+    tangents: &mut [f64],
+    norms: &mut [f64],
+    k: usize,
+    h: f64,
+    n: u64,
+    from: Progress,
+) -> Progress
+    requires { ⌜ Under.Fits system (now matrix) k h Under.most Under.most (held (now state) (now tangents) (now norms) from) × (n ≤ limit) ⌝ }
+    ensures { λ r. ⌜ Under.Windowed system (now (matrix .entry)) k h n (held (now (state .entry)) (now (tangents .entry)) (now (norms .entry)) from) (held (now (state .exit)) (now (tangents .exit)) (now (norms .exit)) r) ⌝ }
+{
+    let a = crate::advance_steps(system, matrix, state, tangents, k, h, n, from.time);
+    let v = a.outcome;
+    let Outcome::Accepted = v else {
+        return crate::after_steps(from, v, a.time, a.steps);
+    };
+    let o = gram_schmidt::modified_gram_schmidt(tangents, state.len(), norms);
+    let q = crate::after_steps(from, o, a.time, a.steps);
+    let Outcome::Accepted = o else {
+        return q;
+    };
+    let e = k + k;
+    crate::count_faint(q, &norms[k..e])
+}
+
+// The warm-up windows, if nothing is refused yet.
+pub fn warm_up(
+    system: System,
+    matrix: &[f64],
+    state: &mut [f64],
+    tangents: &mut [f64],
+    norms: &mut [f64],
+    k: usize,
+    h: f64,
+    n: u64,
+    windows: u64,
+    from: Progress,
+) -> Progress
+    requires { ⌜ Under.Fits system (now matrix) k h limit limit (held (now state) (now tangents) (now norms) from) × (n ≤ limit) × (windows ≤ limit) ⌝ }
+    ensures { λ r. ⌜ Under.WarmedUp system (now (matrix .entry)) k h n windows (held (now (state .entry)) (now (tangents .entry)) (now (norms .entry)) from) (held (now (state .exit)) (now (tangents .exit)) (now (norms .exit)) r) ⌝ }
+{
+    let mut p = from;
+    let mut w: u64 = 0;
+    while w < windows {
+        let v = p.outcome;
+        let Outcome::Accepted = v else {
+            return p;
+        };
+        p = window(system, matrix, state, tangents, norms, k, h, n, p);
+        w += 1;
+    }
+    p
+}
+
+// One measured window: the window, the sums, and its row.
+pub fn measured_window(
+    system: System,
+    matrix: &[f64],
+    state: &mut [f64],
+    tangents: &mut [f64],
+    norms: &mut [f64],
+    row: &mut [f64],
+    k: usize,
+    h: f64,
+    n: u64,
+    from: Progress,
+) -> Progress
+    requires { ⌜ Under.Fits system (now matrix) k h Under.most Under.most (held (now state) (now tangents) (now norms) from) × (n ≤ limit) × (length (now row) ≡ 1 + 2 * k) ⌝ }
+    ensures { λ r. ⌜ Under.MeasuredWindow system (now (matrix .entry)) k h n (held (now (state .entry)) (now (tangents .entry)) (now (norms .entry)) from) (now (row .entry))
+        (held (now (state .exit)) (now (tangents .exit)) (now (norms .exit)) r) (now (row .exit)) ⌝ }
+{
+    let q = window(system, matrix, state, tangents, norms, k, h, n, from);
+    let v = q.outcome;
+    let Outcome::Accepted = v else {
+        return q;
+    };
+    let p = crate::add_logs(q, &norms[..k]);
+    let length = crate::duration(h, n);
+    let elapsed = length * crate::as_float(p.windows);
+    crate::write_row(row, &norms[..k], p, length, elapsed);
+    p
+}
+
+// The measured windows, if nothing is refused yet: each is lent its row of the rows slice.
+pub fn measure(
+    system: System,
+    matrix: &[f64],
+    state: &mut [f64],
+    tangents: &mut [f64],
+    norms: &mut [f64],
+    rows: &mut [f64],
+    k: usize,
+    h: f64,
+    n: u64,
+    windows: u64,
+    from: Progress,
+) -> Progress
+    requires { ⌜ Under.Fits system (now matrix) k h (limit + limit) limit (held (now state) (now tangents) (now norms) from) × (n ≤ limit) × (windows ≤ limit)
+        × (windows * (1 + 2 * k) ≤ length (now rows)) ⌝ }
+    ensures { λ r. ⌜ Under.MeasuredWindows system (now (matrix .entry)) k h n windows (held (now (state .entry)) (now (tangents .entry)) (now (norms .entry)) from) (now (rows .entry))
+        (held (now (state .exit)) (now (tangents .exit)) (now (norms .exit)) r) (now (rows .exit)) ⌝ }
+{
+    let width = 1 + 2 * k;
+    let mut p = from;
+    let mut w: u64 = 0;
+    let mut a = 0;
+    while w < windows {
+        let v = p.outcome;
+        let Outcome::Accepted = v else {
+            return p;
+        };
+        let e = a + width;
+        p = measured_window(
+            system,
+            matrix,
+            state,
+            tangents,
+            norms,
+            &mut rows[a..e],
+            k,
+            h,
+            n,
+            p,
+        );
+        w += 1;
+        a = e;
+    }
+    p
+}
+
+// The answer of a run of so many measured windows, its exponents and its final state. A refused run writes neither.
+pub fn end(
+    state: &[f64],
+    exponents: &mut [f64],
+    final_state: &mut [f64],
+    k: usize,
+    h: f64,
+    n: u64,
+    windows: u64,
+    done: Progress,
+) -> SpectrumEstimate
+    requires { ⌜ Under.Bounded k Under.most Under.most done × (k ≤ 16) × (k ≤ length (now exponents)) × (length (now state) ≤ length (now «final_state»)) × (n ≤ limit) × (windows ≤ limit) ⌝ }
+    ensures { λ r. ⌜ (Under.Ended k (h ⊗ Run.as-float n) windows (now (state .entry)) done (now (exponents .entry)) (now («final_state» .entry)) r (now (exponents .exit)) (now («final_state» .exit))) ⌝ }
+{
+    let v = done.outcome;
+    if let Outcome::Refused(e) = v {
+        return crate::refused(e, done.windows, done.steps);
+    }
+    let measured = crate::duration(h, n) * crate::as_float(windows);
+    let sums = done.sums;
+    crate::write_rates(&mut exponents[..k], &sums[..k], measured);
+    let d = state.len();
+    crate::copy_to(&mut final_state[..d], state);
+    let faint = done.faint;
+    SpectrumEstimate {
+        outcome: Outcome::Accepted,
+        windows,
+        steps: done.steps,
+        final_time: done.time,
+        measured_time: measured,
+        faint,
+    }
+}
