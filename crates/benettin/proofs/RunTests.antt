@@ -1,7 +1,7 @@
 -- The tests of a run by their blocks, and what is known once all are passed.
 use Prim.Native.Nat.{ℕ, _+_, _*_, _≤_, _<_}
 use native.Mathlib.Omega.{arith}
-use mathlib.Core.Path.{_≡_, refl, _∙_}
+use mathlib.Core.Path.{_≡_, refl}
 use mathlib.Core.Bool.{true}
 use mathlib.Core.List.{List, _∷_, _++_}
 use mathlib.Core.Option.{Option, none, some, Option·getD}
@@ -18,9 +18,9 @@ use Rattle.system.specs.Tests.{dimension-tests, matrix-tests}
 use Rattle.system.specs.declared.System.{System}
 use Rattle.system.proofs.Tests.{dimension-passed, matrix-passed, length-passed}
 use Rattle.rk4.specs.Tests.{time-tests}
-use Rattle.rk4.proofs.Tests.{time-passed, step-size-passed}
+use Rattle.rk4.proofs.Tests.{time-passed}
 use Rattle.benettin.specs.Run.{OutputLengths, count-tests, output-tests, input-tests, run-tests}
-use Rattle.benettin.specs.Estimate.{Input, limit, setting-tests, limit-tests, is-none, finite-tests, state-tests, problem, dynamics}
+use Rattle.benettin.specs.Estimate.{Input, limit, setting-tests, is-none, state-tests, problem, dynamics}
 use Rattle.benettin.specs.Validation.{Ready}
 
 -- ---- 11, by the position that the code found

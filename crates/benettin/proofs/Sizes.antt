@@ -3,12 +3,12 @@ use Prim.Native.Nat.{ℕ, zero, suc, _+_, _≤_, _<_}
 use native.Mathlib.Omega.{arith}
 use mathlib.Core.Path.{_≡_, refl, ap, _∙_}
 use mathlib.Core.Bool.{Bool, true, false, cond}
-use mathlib.Core.List.{List, [], _∷_, _++_, map}
-use mathlib.Core.Option.{Option, none, some, Option·map}
+use mathlib.Core.List.{List, [], map}
+use mathlib.Core.Option.{Option, none, some}
 use lib.ListN.{length, length-map, length-replicate}
 use lib.Ieee.{Float}
 use lib.Ieee.Scale.{finite}
-use Rattle.floats.specs.Arithmetic.{_⊕_, _⊘_, zero⁺}
+use Rattle.floats.specs.Arithmetic.{_⊕_, zero⁺}
 use Rattle.floats.specs.Finite.{first-not-finite}
 use Rattle.floats.specs.Vector.{concat}
 use Rattle.floats.proofs.Updated.{zip-length}

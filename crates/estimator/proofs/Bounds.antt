@@ -1,5 +1,5 @@
 -- What bounds a run under way, and what fits together, from window to window.
-use Prim.Native.Nat.{ℕ, zero, suc, _+_, _*_, _≤_}
+use Prim.Native.Nat.{ℕ, zero, suc, _+_, _≤_}
 use native.Mathlib.Omega.{arith}
 use mathlib.Core.Path.{_≡_, refl, _∙_}
 use mathlib.Core.Bool.{true}
@@ -11,7 +11,6 @@ use Rattle.error.specs.declared.Outcome.{Outcome}
 use Rattle.floats.specs.Vector.{updated}
 use Rattle.floats.proofs.Updated.{updated-drop, updated-length}
 use Rattle.system.specs.declared.System.{System}
-use Rattle.rk4.specs.Tests.{Passed}
 use Rattle.benettin.specs.Estimate.{limit}
 use Rattle.estimator.specs.Progress.{Held, fresh, after-steps, with-faint, with-sums, counted}
 use Rattle.estimator.specs.UnderWay.{Bounded, Fits}

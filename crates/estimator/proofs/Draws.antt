@@ -1,18 +1,33 @@
--- The draws: the loop that makes them, and the directions that they fill.
+-- The begin of a run: the loop that draws, the directions that the draws fill, and the duration of a window.
 use Prim.Native.Nat.{ℕ, zero, suc, _+_, _-_, _*_, _≤_, _<_}
 use native.Mathlib.Nat.{suc-mul, add-comm}
 use native.Mathlib.Numerals.{add-one}
 use native.Mathlib.Omega.{arith}
-use mathlib.Core.Path.{_≡_, refl, sym, ap, _∙_}
-use mathlib.Core.List.{List, _++_, append-nil}
+use mathlib.Core.Path.{_≡_, refl, sym, _∙_}
+use mathlib.Core.List.{List, [], _++_, append-nil}
 use lib.ListN.{length, take, set}
 use lib.Seq.{take-all, take-at, drop-at, take-suc-set, append-snoc}
 use lib.Ieee.{Float}
+use mathlib.Core.Bool.{true, false}
+use Rattle.error.specs.declared.LyapunovError.{LyapunovError}
+use Rattle.error.specs.declared.LyapunovError.the-variants.{InvalidWindowDuration}
+use Rattle.error.specs.declared.Outcome.{Outcome}
+use Rattle.error.specs.declared.Outcome.the-variants.{Accepted, Refused}
+use Rattle.floats.specs.Arithmetic.{_⊗_, zero⁺}
+use Rattle.system.specs.System.{dim}
+use Rattle.system.specs.declared.System.{System}
+use Rattle.gram_schmidt.specs.GramSchmidt.{euclidean, orthonormalised, observed}
+use lib.Ieee.Scale.{finite}
 use Rattle.floats.specs.Vector.{chunks}
 use Rattle.splitmix64.specs.Mix.{next-state, mix, unit}
-use Rattle.benettin.specs.Run.{Generator, draws, generator-after, drawn-directions}
-use Rattle.benettin.specs.Estimate.{splitmix64}
-use Rattle.benettin.proofs.Prefix.{draws-length}
+use Rattle.benettin.specs.Run.{Generator, draws, generator-after, drawn-directions, initial, reorthonormalise, check-duration, begin, as-float, _then_}
+use Rattle.benettin.specs.Estimate.{dynamics, splitmix64}
+use Rattle.benettin.proofs.Prefix.{draws-length, take-replicate}
+use Rattle.estimator.specs.Progress.{held, run-state, totals, status, fresh}
+use Rattle.estimator.specs.UnderWay.{Begun}
+use Rattle.estimator.specs.declared.progress.Progress.{Progress}
+use Rattle.estimator.proofs.Basis.{reorthonormalised}
+use Rattle.estimator.proofs.Bounds.{bounded-fresh}
 
 module _ (G : Generator) where
   pub draws-next : (xs : List Float) (n i s : ℕ) → i < n → length xs ≡ n
@@ -51,3 +66,47 @@ pub draws-iteration : (xs : List Float) (n i s s′ : ℕ) (x : Float) → i < n
     → take i xs ++ draws splitmix64 (n - i) s ≡ take (i + 1) (set xs i x) ++ draws splitmix64 (n - (i + 1)) s′
 unfolding splitmix64
 draws-iteration xs n i s s′ x h e a b = draws-next splitmix64 xs n i s h e ∙ rw (b, a)
+
+-- ---- the begin
+
+-- what the orthonormalisation of the drawn directions told
+pub record Drawn (k : ℕ) (time : Float) (seed : ℕ) (x norms : List Float) (r : Outcome) (t′ norms′ : List Float) : Type 0 where
+  pub above : 0 < length x
+  pub few : k ≤ 16
+  pub norms-many : length norms ≡ 32
+  pub clock : finite time ≡ true
+  pub told : observed r t′ norms′ ≡ orthonormalised euclidean (draws splitmix64 (k * length x) seed) (length x) norms
+
+module _ {k : ℕ} {time : Float} {seed : ℕ} {x norms : List Float} {r : Outcome} {t′ norms′ : List Float} (I : Drawn k time seed x norms r t′ norms′) (h : Float) (n : ℕ) where
+  -- by how the orthonormalisation ended
+  basis-is : (S : System) (m : List Float) → length x ≡ dim S
+      → status (dim S) k (held x t′ norms′ (fresh r time)) ≡ reorthonormalise (dynamics S m h n) (initial splitmix64 (dim S) x time seed k)
+  unfolding initial dynamics
+  basis-is S m d =
+      let T = draws splitmix64 (k * dim S) seed in
+      let e : observed r t′ norms′ ≡ orthonormalised euclidean T (dim S) norms = I .told ∙ rw d in
+      reorthonormalised (dim S) k T norms (omega (arith, I .above)) (I .few) (draws-length splitmix64 (k * dim S) seed) (I .norms-many) r t′ norms′ e (dynamics S m h n) refl x time 0
+      (record { logs = []; reports = [] }) (totals k (fresh r time))
+      ∙ rw (drawn-are splitmix64 (dim S) k seed, take-replicate zero⁺ k 16 (I .few), take-replicate {A = ℕ} 0 k 16 (I .few))
+
+  pub begun-14 : {ε : LyapunovError} {p : Progress} → p ≡ fresh (Refused ε) time → r ≡ Refused ε → Begun k h n time seed (held x t′ norms′ p)
+  unfolding begin _then_
+  begun-14 {ε} g f = record { status = λ S m d. rw (g, ← basis-is S m d, f); bounded = rw g (bounded-fresh (Refused ε) (I .clock)) }
+
+  module _ (f : r ≡ Accepted) (u : Float) (ν : u ≡ h ⊗ as-float n) where
+    begun-by : (S : System) (m : List Float) → length x ≡ dim S
+        → begin (dynamics S m h n) (initial splitmix64 (dim S) x time seed k) ≡ check-duration (dynamics S m h n) (run-state (dim S) k (held x t′ norms′ (fresh Accepted time)))
+    unfolding begin _then_
+    begun-by S m d = rw (← basis-is S m d, f)
+
+    pub begun-15 : {p : Progress} → p ≡ fresh (Refused InvalidWindowDuration) time → finite u ≡ false → Begun k h n time seed (held x t′ norms′ p)
+    unfolding check-duration dynamics
+    begun-15 g b =
+        let b′ : finite (h ⊗ as-float n) ≡ false = rw ν at b in
+        record { status = λ S m d. rw (g, begun-by S m d, b′); bounded = rw g (bounded-fresh (Refused InvalidWindowDuration) (I .clock)) }
+
+    pub begun : {p : Progress} → p ≡ fresh Accepted time → finite u ≡ true → Begun k h n time seed (held x t′ norms′ p)
+    unfolding check-duration dynamics
+    begun g b =
+        let b′ : finite (h ⊗ as-float n) ≡ true = rw ν at b in
+        record { status = λ S m d. rw (g, begun-by S m d, b′); bounded = rw g (bounded-fresh Accepted (I .clock)) }

@@ -1,82 +1,30 @@
--- The begin and the end of a run, and what the tests decide.
-use Prim.Native.Nat.{ℕ, _*_, _≤_, _<_}
+-- The end of a run, and what the tests decide.
+use Prim.Native.Nat.{ℕ, _*_, _≤_}
 use native.Mathlib.Nat.{mul-le-mul-right, mul-le-mul-left, le-trans}
 use native.Mathlib.Omega.{arith}
 use mathlib.Core.Path.{_≡_, refl, sym, ap, _∙_}
-use mathlib.Core.Bool.{true, false}
-use mathlib.Core.List.{List, [], _++_, map}
+use mathlib.Core.List.{List, _++_, map}
 use mathlib.Core.Option.{Option, none, some}
 use lib.ListN.{length, take, drop, take-append-drop, length-map}
 use lib.Seq.{sets, take-append-seam, length-take-le}
 use lib.Ieee.{Float}
-use lib.Ieee.Scale.{finite}
-use Rattle.error.specs.Refusal.{refusal, reported}
+use Rattle.error.specs.Refusal.{refusal}
 use Rattle.error.specs.Tests.{first-failing}
 use Rattle.error.specs.declared.LyapunovError.{LyapunovError}
-use Rattle.error.specs.declared.LyapunovError.the-variants.{InvalidWindowDuration}
-use Rattle.error.specs.declared.Outcome.{Outcome}
 use Rattle.error.specs.declared.Outcome.the-variants.{Accepted, Refused}
 use Rattle.error.specs.declared.Refusal.{Refusal}
-use Rattle.floats.specs.Arithmetic.{_⊗_, _⊘_, zero⁺}
+use Rattle.floats.specs.Arithmetic.{_⊗_, _⊘_}
 use Rattle.floats.proofs.Sets.{drop-replicate}
-use Rattle.gram_schmidt.specs.GramSchmidt as GramSchmidt
-use Rattle.gram_schmidt.specs.GramSchmidt.{euclidean, orthonormalised}
 use Rattle.gram_schmidt.proofs.Finished.{sets-start}
 use Rattle.system.specs.System.{dim}
-use Rattle.system.specs.declared.System.{System}
-use Rattle.benettin.specs.Run.{Dynamics, RunState, Course, Status, ok, begin, check-duration, reorthonormalise, warmed-up, measured-from, course, course-of, initial, draws, as-float, answer, run-tests, run-past, run, _then_}
+use Rattle.benettin.specs.Run.{begin, warmed-up, measured-from, course, initial, as-float, answer, run-tests, run-past, run}
 use Rattle.benettin.specs.Estimate.{Input, dynamics, splitmix64, problem, estimate}
 use Rattle.benettin.specs.Outputs.{Estimated, estimated, outputs, observed, sixteen, lengths-of, flat-rows}
 use Rattle.benettin.specs.declared.SpectrumEstimate.{SpectrumEstimate}
-use Rattle.benettin.proofs.Prefix.{draws-length, take-replicate}
 use Rattle.benettin.proofs.Reading.{none-faint}
-use Rattle.estimator.specs.Progress.{Held, held, motion, norms-of, joined, run-state, status, status-of, fresh, refused-estimate}
+use Rattle.estimator.specs.Progress.{Held, status, refused-estimate}
 use Rattle.estimator.specs.UnderWay.{Bounded, Begun, WarmedUp, MeasuredWindows, Ended, Recorded, written}
 use Rattle.estimator.specs.declared.progress.Progress.{Progress}
-use Rattle.estimator.proofs.Basis.{reorthonormalised}
-use Rattle.estimator.proofs.Bounds.{bounded-fresh}
-use Rattle.estimator.proofs.Draws.{drawn-are}
-
--- ---- the begin
-
-module _ (x t norms : List Float) (k : ℕ) (h : Float) (n : ℕ) (time : Float) (seed : ℕ) (some : 0 < length x) (few : k ≤ 16) (l : length t ≡ k * length x) (m : length norms ≡ 32) (τ : finite time ≡ true)
-    (r : Outcome) (t′ norms′ : List Float) (e : GramSchmidt.observed r t′ norms′ ≡ orthonormalised euclidean (draws splitmix64 (length t) seed) (length x) norms) where
-  -- by how the orthonormalisation ended
-  basis-is : (S : System) (M : List Float) → length x ≡ dim S
-      → status (dim S) k (held x t′ norms′ (fresh r time)) ≡ reorthonormalise (dynamics S M h n) (initial splitmix64 (dim S) x time seed k)
-  unfolding initial dynamics
-  basis-is S M d =
-      let e′ : GramSchmidt.observed r t′ norms′ ≡ orthonormalised euclidean (draws splitmix64 (k * dim S) seed) (dim S) norms = e ∙ rw (l, d) in
-      let z : 0 < dim S = omega arith in
-      let R =
-      reorthonormalised (dim S) k (draws splitmix64 (k * dim S) seed) norms z few (draws-length splitmix64 (k * dim S) seed) m r t′ norms′ e′ (dynamics S M h n) refl x time 0
-      (record { logs = []; reports = [] }) (record { finished = 0; sums = take k (fresh r time .sums); faint = take k (fresh r time .faint) }) in
-      R ∙ rw (drawn-are splitmix64 (dim S) k seed, take-replicate zero⁺ k 16 few, take-replicate {A = ℕ} 0 k 16 few)
-
-  pub begun-14 : (ε : LyapunovError) (p : Progress) → p ≡ fresh (Refused ε) time → r ≡ Refused ε → Begun k h n time seed (held x t′ norms′ p)
-  unfolding begin _then_
-  begun-14 ε p g f = record { status = λ S M d. rw g (go S M d (basis-is S M d)); bounded = rw g (bounded-fresh (Refused ε) τ) }
-    where
-      go : (S : System) (M : List Float) → length x ≡ dim S → status (dim S) k (held x t′ norms′ (fresh r time)) ≡ reorthonormalise (dynamics S M h n) (initial splitmix64 (dim S) x time seed k)
-          → status (dim S) k (held x t′ norms′ (fresh (Refused ε) time)) ≡ (reorthonormalise (dynamics S M h n) (initial splitmix64 (dim S) x time seed k) then check-duration (dynamics S M h n))
-      go S M d b = rw (← b, f)
-
-  module _ (f : r ≡ Accepted) (u : Float) (ν : u ≡ h ⊗ as-float n) where
-    begun-by : (S : System) (M : List Float) → length x ≡ dim S → begin (dynamics S M h n) (initial splitmix64 (dim S) x time seed k) ≡ check-duration (dynamics S M h n) (run-state (dim S) k (held x t′ norms′ (fresh Accepted time)))
-    unfolding begin _then_
-    begun-by S M d = rw (← basis-is S M d, f)
-
-    pub begun-15 : (p : Progress) → p ≡ fresh (Refused InvalidWindowDuration) time → finite u ≡ false → Begun k h n time seed (held x t′ norms′ p)
-    unfolding check-duration dynamics
-    begun-15 p g b =
-        let b′ : finite (h ⊗ as-float n) ≡ false = rw ν at b in
-        record { status = λ S M d. rw g (rw (begun-by S M d, b′)); bounded = rw g (bounded-fresh (Refused InvalidWindowDuration) τ) }
-
-    pub begun : (p : Progress) → p ≡ fresh Accepted time → finite u ≡ true → Begun k h n time seed (held x t′ norms′ p)
-    unfolding check-duration dynamics
-    begun p g b =
-        let b′ : finite (h ⊗ as-float n) ≡ true = rw ν at b in
-        record { status = λ S M d. rw g (rw (begun-by S M d, b′)); bounded = rw g (bounded-fresh Accepted τ) }
 
 -- ---- the end
 

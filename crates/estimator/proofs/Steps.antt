@@ -28,7 +28,7 @@ use Rattle.rk4.proofs.Lengths.{direction-length}
 use Rattle.rk4.proofs.Tests.{stepped-passed}
 use Rattle.benettin.specs.Run.{Dynamics, RunState, Norms, Totals, Status, ok, refused, refused-at, tested, step, steps, _then_}
 use Rattle.benettin.specs.Estimate.{dynamics}
-use Rattle.estimator.specs.Progress.{motion, joined, status-of}
+use Rattle.estimator.specs.Progress.{motion, joined}
 use Rattle.estimator.specs.UnderWay.{Advanced}
 
 -- ---- one step

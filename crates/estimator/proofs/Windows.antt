@@ -3,13 +3,11 @@ use Prim.Native.Nat.{ℕ, _+_, _-_, _*_, _≤_}
 use native.Mathlib.Numerals.{add-one}
 use native.Mathlib.Omega.{arith}
 use mathlib.Core.Path.{_≡_, refl, sym, ap, _∙_}
-use mathlib.Core.Bool.{true}
 use mathlib.Core.List.{List, _∷_, _++_, map}
-use lib.ListN.{length, take, drop, length-take}
+use lib.ListN.{length, take, drop}
 use lib.Seq.{length-take-le}
 use lib.Ieee.{Float}
-use lib.Ieee.Scale.{finite}
-use Rattle.error.specs.Refusal.{refusal, reported}
+use Rattle.error.specs.Refusal.{reported}
 use Rattle.error.specs.declared.LyapunovError.{LyapunovError}
 use Rattle.error.specs.declared.Outcome.{Outcome}
 use Rattle.error.specs.declared.Outcome.the-variants.{Accepted, Refused}
@@ -19,11 +17,10 @@ use Rattle.floats.proofs.Updated.{updated-take, updated-length}
 use Rattle.system.specs.System.{dim}
 use Rattle.system.specs.declared.System.{System}
 use Rattle.gram_schmidt.specs.GramSchmidt.{euclidean, observed, orthonormalised}
-use Rattle.benettin.specs.Run.{Dynamics, RunState, RunRefusal, Status, ok, refused, steps, reorthonormalise, count-faint, window, accumulate, row, as-float, _then_}
+use Rattle.benettin.specs.Run.{Dynamics, RunState, ok, steps, reorthonormalise, count-faint, window, accumulate, row, as-float, _then_}
 use Rattle.benettin.specs.Estimate.{dynamics, limit}
-use Rattle.benettin.specs.Outputs.{flat-row}
 use Rattle.estimator.specs.Progress.{Held, held, motion, norms-of, totals, joined, run-state, status-of, status, after-steps, with-faint, with-sums, counted}
-use Rattle.estimator.specs.UnderWay.{Fits, Bounded, Advanced, Windowed, MeasuredWindow, Recorded, recorded, with-row-of, most}
+use Rattle.estimator.specs.UnderWay.{Fits, Advanced, Windowed, MeasuredWindow, most}
 use Rattle.estimator.specs.declared.progress.Progress.{Progress}
 use Rattle.estimator.specs.declared.Advance.{Advance}
 use Rattle.estimator.proofs.Basis.{reorthonormalised, reports-many}

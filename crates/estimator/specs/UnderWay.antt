@@ -11,7 +11,7 @@ use Rattle.error.specs.Refusal.{reported}
 use Rattle.system.specs.System.{dim}
 use Rattle.system.specs.declared.System.{System}
 use Rattle.rk4.specs.Tests.{Passed}
-use Rattle.benettin.specs.Run.{Dynamics, RunState, Norms, Totals, Row, Course, Status, ok, refused, row, accumulate, steps, window, warm-up, begin, initial, measured-from, answer, _then_}
+use Rattle.benettin.specs.Run.{Dynamics, Norms, Totals, Row, Course, Status, ok, refused, row, accumulate, steps, window, warm-up, begin, initial, measured-from, answer, _then_}
 use Rattle.benettin.specs.Estimate.{dynamics, splitmix64, limit}
 use Rattle.benettin.specs.Outputs.{flat-row, flat-rows, observed, outputs}
 use Rattle.benettin.specs.declared.SpectrumEstimate.{SpectrumEstimate}

@@ -48,7 +48,8 @@ fn draw_directions(tangents: &mut [f64], seed: u64)
 
 // The drawn directions, orthonormalised.
 fn initialize_basis(tangents: &mut [f64], d: usize, norms: &mut [f64], seed: u64) -> Outcome
-    ensures { λ r. ⌜ GramSchmidt.observed r (now (tangents .exit)) (now (norms .exit)) ≡ GramSchmidt.orthonormalised GramSchmidt.euclidean (Run.draws Estimate.splitmix64 (length (now (tangents .entry))) seed) d (now (norms .entry)) ⌝ }
+    ensures { λ r. ⌜ GramSchmidt.observed r (now (tangents .exit)) (now (norms .exit))
+        ≡ GramSchmidt.orthonormalised GramSchmidt.euclidean (Run.draws Estimate.splitmix64 (length (now (tangents .entry))) seed) d (now (norms .entry)) ⌝ }
 {
     draw_directions(tangents, seed);
     gram_schmidt::modified_gram_schmidt(tangents, d, norms)

@@ -66,7 +66,8 @@ pub fn window(
     from: Progress,
 ) -> Progress
     requires { ⌜ Under.Fits system (now matrix) k h Under.most Under.most (held (now state) (now tangents) (now norms) from) × (n ≤ limit) ⌝ }
-    ensures { λ r. ⌜ Under.Windowed system (now (matrix .entry)) k h n (held (now (state .entry)) (now (tangents .entry)) (now (norms .entry)) from) (held (now (state .exit)) (now (tangents .exit)) (now (norms .exit)) r) ⌝ }
+    ensures { λ r. ⌜ Under.Windowed system (now (matrix .entry)) k h n (held (now (state .entry)) (now (tangents .entry)) (now (norms .entry)) from)
+        (held (now (state .exit)) (now (tangents .exit)) (now (norms .exit)) r) ⌝ }
 {
     let a = crate::advance_steps(system, matrix, state, tangents, k, h, n, from.time);
     let v = a.outcome;
@@ -96,7 +97,8 @@ pub fn warm_up(
     from: Progress,
 ) -> Progress
     requires { ⌜ Under.Fits system (now matrix) k h limit limit (held (now state) (now tangents) (now norms) from) × (n ≤ limit) × (windows ≤ limit) ⌝ }
-    ensures { λ r. ⌜ Under.WarmedUp system (now (matrix .entry)) k h n windows (held (now (state .entry)) (now (tangents .entry)) (now (norms .entry)) from) (held (now (state .exit)) (now (tangents .exit)) (now (norms .exit)) r) ⌝ }
+    ensures { λ r. ⌜ Under.WarmedUp system (now (matrix .entry)) k h n windows (held (now (state .entry)) (now (tangents .entry)) (now (norms .entry)) from)
+        (held (now (state .exit)) (now (tangents .exit)) (now (norms .exit)) r) ⌝ }
 {
     let mut p = from;
     let mut w: u64 = 0;

@@ -1,6 +1,5 @@
 -- `estimator::advance_steps` meets its contract.
 use borrow.Author.Needs.{needs}
-use native.Mathlib.Omega.{arith}
 use Prim.Native.Nat.{_-_}
 use mathlib.Core.Path.{sym, _∙_}
 use Rattle.estimator.proofs.Steps.{Stepping, stepping-start, stepping-on, stepping-refused, stepping-late, stepping-end}

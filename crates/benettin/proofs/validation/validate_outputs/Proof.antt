@@ -1,16 +1,10 @@
 -- `benettin::validation::validate_outputs` meets its contract.
-use mathlib.Core.Path.{_≡_, sym, ap, _∙_}
-use mathlib.Core.Option.{Option}
+use mathlib.Core.Path.{sym, ap, _∙_}
 use Prim.Native.Nat.{ℕ}
 use borrow.Author.Needs.{needs}
 use borrow.Author.Tests.{le-leb, lt-leb, not-true, not-false}
 use lib.Dec.{leb}
-use lib.ListN.{drop}
-use Rattle.error.specs.Tests.{first-failing}
-use Rattle.error.specs.declared.Refusal.{Refusal}
 use Rattle.error.proofs.Tests.{skip, stop, tested}
-use Rattle.system.specs.System.{dim}
-use Rattle.benettin.specs.Run.{output-tests, lengths}
 use Rattle.benettin.proofs.validation.validate_outputs.Statement.{statement}
 use Rattle.benettin.proofs.validation.validate_outputs.Tie as tie
 

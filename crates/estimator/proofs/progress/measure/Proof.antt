@@ -1,8 +1,8 @@
 -- `estimator::progress::measure` meets its contract.
 use borrow.Author.Needs.{needs}
 use native.Mathlib.Omega.{arith}
-use Prim.Native.Nat.{ℕ, _+_, _-_, _*_, _≤_}
-use mathlib.Core.Path.{_≡_, _∙_}
+use Prim.Native.Nat.{_+_, _-_, _*_, _≤_}
+use mathlib.Core.Path.{_∙_}
 use lib.ListN.{length}
 use Rattle.estimator.specs.Progress.{held}
 use Rattle.estimator.proofs.Bounds.{fits-up}

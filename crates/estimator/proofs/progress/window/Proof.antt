@@ -1,8 +1,7 @@
 -- `estimator::progress::window` meets its contract.
 use borrow.Author.Needs.{needs}
 use native.Mathlib.Omega.{arith}
-use Prim.Native.Nat.{_≤_}
-use mathlib.Core.Path.{_≡_, ap, _∙_}
+use mathlib.Core.Path.{ap, _∙_}
 use lib.ListN.{length, length-take}
 use Rattle.estimator.specs.declared.progress.Progress.{Progress}
 use Rattle.estimator.proofs.Windows.{steps-refused, basis-collapsed, window-done}
