@@ -8,7 +8,7 @@ if ! command -v valgrind >/dev/null; then
     exit 0
 fi
 cd "$(dirname "${BASH_SOURCE[0]}")"
-cargo build --release -p fuzz
+cargo build --release -p compare
 target=${CARGO_TARGET_DIR:-target}
 valgrind --error-exitcode=1 --leak-check=no --quiet \
-    "$target/release/fuzz" --seconds 120 --calls "${1:-800}" --seed "${2:-1}"
+    "$target/release/compare" fuzz --seconds 120 --calls "${1:-800}" --seed "${2:-1}"

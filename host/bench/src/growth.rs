@@ -38,7 +38,8 @@ fn group(cases: &[Case]) {
 }
 
 fn work((problem, counts): &Case) -> f64 {
-    let products = (1 + problem.top_k) * problem.dimension * problem.dimension;
+    let d = problem.system.dimension();
+    let products = (1 + problem.top_k) * d * d;
     products as f64 * (counts.windows * counts.steps) as f64
 }
 

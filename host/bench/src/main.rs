@@ -10,24 +10,22 @@ mod root;
 mod runs;
 mod steps;
 
-use oracle::Oracle;
 use race::Race;
 use std::process::ExitCode;
 
 fn main() -> ExitCode {
-    let oracle = Oracle::load();
+    let source = oracle::source();
     println!(
         "Nanoseconds, the least of {} turns taken in turn.\n",
         race::TURNS
     );
-    if let Err(error) = &oracle {
-        println!("The Rust source: {error}. Its times and the ratios are left out.\n");
+    if source.is_none() {
+        println!("The Rust source: source not available. Its times and the ratios are left out.\n");
     }
-    let oracle = oracle.ok();
     let measured = table("the Rust source", || {
-        let mut races = steps::races(oracle.as_ref())?;
-        races.extend(orthonormaliser::races(oracle.as_ref())?);
-        races.extend(runs::races(oracle.as_ref())?);
+        let mut races = steps::races(source)?;
+        races.extend(orthonormaliser::races(source)?);
+        races.extend(runs::races(source)?);
         Ok(races)
     })
     .and_then(|()| table("the hardware", || Ok(vec![root::race()])))

@@ -2,34 +2,34 @@
 //! The source's vector of logarithms is part of its call.
 
 use crate::problem::linear;
-use crate::race::{same_bits, Race};
-use oracle::{End, Oracle};
+use crate::race::{same_bits, Race, Reference};
+use oracle::{End, Source};
 use std::hint::black_box;
 
-pub fn races(oracle: Option<&Oracle>) -> Result<Vec<Race>, String> {
+pub fn races(source: Reference) -> Result<Vec<Race>, String> {
     let sizes = [(3, 20_000), (16, 500)];
-    let race = |(size, calls)| race(oracle.copied(), size, calls);
+    let race = |(size, calls)| race(source, size, calls);
     sizes.into_iter().map(race).collect()
 }
 
-fn race(oracle: Option<Oracle>, size: usize, calls: usize) -> Result<Race, String> {
+fn race(source: Reference, size: usize, calls: usize) -> Result<Race, String> {
     let name = format!("orthonormalise, d={size} K={size}");
     let mut directions = linear(size, size).directions();
     // The pattern of directions repeats; the diagonal keeps them apart.
     for at in 0..size {
         directions[at * size + at] += 2.0;
     }
-    if let Some(oracle) = &oracle {
+    if let Some(source) = source {
         let mine = by_library(&directions, size);
-        same_bits(&name, &mine, &by_source(oracle, &directions, size)?)?;
+        same_bits(&name, &mine, &by_source(source, &directions, size)?)?;
     }
     let copy = directions.clone();
-    let other = oracle.map(|oracle| -> Box<dyn FnMut()> {
+    let other = source.map(|source| -> Box<dyn FnMut()> {
         let mut work = copy.clone();
         Box::new(move || {
             for _ in 0..calls {
                 work.copy_from_slice(black_box(&copy));
-                let _ = black_box(oracle.modified_gram_schmidt(&mut work, size));
+                let _ = black_box(source.modified_gram_schmidt(&mut work, size));
             }
         })
     });
@@ -59,9 +59,9 @@ fn by_library(directions: &[f64], size: usize) -> Vec<f64> {
     directions
 }
 
-fn by_source(oracle: &Oracle, directions: &[f64], size: usize) -> Result<Vec<f64>, String> {
+fn by_source(source: &dyn Source, directions: &[f64], size: usize) -> Result<Vec<f64>, String> {
     let mut directions = directions.to_vec();
-    match oracle.modified_gram_schmidt(&mut directions, size) {
+    match source.modified_gram_schmidt(&mut directions, size) {
         End::Done(logarithms) => {
             directions.extend(logarithms);
             Ok(directions)

@@ -1,12 +1,12 @@
-//! The systems that are timed, as each side takes them.
+//! The systems that are timed.
+
+use input::{Settings, System};
+use oracle::{Circuit, Start};
 
 #[derive(Clone)]
 pub struct Problem {
     pub name: String,
-    kind: u64,
-    parameters: [f64; 3],
-    pub dimension: usize,
-    matrix: Vec<f64>,
+    pub system: System,
     pub state: Vec<f64>,
     pub top_k: usize,
     pub step_size: f64,
@@ -15,10 +15,11 @@ pub struct Problem {
 pub fn lorenz() -> Problem {
     Problem {
         name: "Lorenz K=3".into(),
-        kind: 0,
-        parameters: [10.0, 28.0, 8.0 / 3.0],
-        dimension: 3,
-        matrix: Vec::new(),
+        system: System::Lorenz {
+            sigma: 10.0,
+            rho: 28.0,
+            beta: 8.0 / 3.0,
+        },
         state: vec![1.0, 1.0, 1.0],
         top_k: 3,
         step_size: 0.001,
@@ -26,11 +27,10 @@ pub fn lorenz() -> Problem {
 }
 
 pub fn rossler() -> Problem {
+    let [a, b, c] = [0.2, 0.2, 5.7];
     Problem {
         name: "Rössler K=3".into(),
-        kind: 1,
-        parameters: [0.2, 0.2, 5.7],
-        step_size: 0.001,
+        system: System::Rossler { a, b, c },
         ..lorenz()
     }
 }
@@ -38,9 +38,7 @@ pub fn rossler() -> Problem {
 pub fn van_der_pol() -> Problem {
     Problem {
         name: "van der Pol K=1".into(),
-        kind: 2,
-        parameters: [1.0, 0.0, 0.0],
-        dimension: 2,
+        system: System::VanDerPol { mu: 1.0 },
         state: vec![2.0, 0.0],
         top_k: 1,
         ..lorenz()
@@ -59,52 +57,44 @@ pub fn linear(dimension: usize, top_k: usize) -> Problem {
             sign * turn
         }
     };
+    let matrix = (0..dimension * dimension).map(entry).collect();
     Problem {
         name: format!("Linear({dimension}) K={top_k}"),
-        kind: 3,
-        parameters: [0.0; 3],
-        dimension,
-        matrix: (0..dimension * dimension).map(entry).collect(),
+        system: System::Linear { dimension, matrix },
         state: vec![1.0; dimension],
         top_k,
-        step_size: 0.001,
+        ..lorenz()
     }
 }
 
 impl Problem {
-    pub fn lent(&self) -> lyapunov_sys::System<'_> {
-        lyapunov_sys::System {
-            kind: self.kind,
-            parameters: self.parameters,
-            dimension: self.dimension,
-            matrix: &self.matrix,
+    pub fn circuit(&self) -> Circuit<'_> {
+        Circuit {
+            system: &self.system,
+            may_evaluate: true,
         }
     }
 
-    pub fn circuit(&self) -> oracle::Circuit<'_> {
-        let [a, b, c] = self.parameters;
-        let system = match self.kind {
-            0 => oracle::System::Lorenz {
-                sigma: a,
-                rho: b,
-                beta: c,
-            },
-            1 => oracle::System::Rossler { a, b, c },
-            2 => oracle::System::VanDerPol { mu: a },
-            _ => oracle::System::Linear {
-                dimension: self.dimension,
-                matrix: &self.matrix,
-            },
-        };
-        oracle::Circuit {
-            system,
-            may_evaluate: true,
+    pub fn start(&self) -> Start<'_> {
+        Start {
+            time: 0.0,
+            state: &self.state,
+        }
+    }
+
+    pub fn settings(&self, steps_per_window: u64, windows: u64) -> Settings {
+        let (k, h) = (self.top_k, self.step_size);
+        Settings {
+            seed: 1,
+            ..Settings::new(k, h, steps_per_window, windows)
         }
     }
 
     /// Directions that are neither orthogonal nor of one length.
     pub fn directions(&self) -> Vec<f64> {
         let entry = |at: usize| ((7 * at + 3) % 11) as f64 * 0.25 - 1.1 + 0.01 * at as f64;
-        (0..self.dimension * self.top_k).map(entry).collect()
+        (0..self.system.dimension() * self.top_k)
+            .map(entry)
+            .collect()
     }
 }

@@ -7,6 +7,9 @@ pub const TURNS: usize = 41;
 
 type Side = Box<dyn FnMut()>;
 
+/// The Rust source, where it is at hand.
+pub type Reference = Option<&'static dyn oracle::Source>;
+
 pub struct Race {
     pub name: String,
     /// The largest ratio that is aimed at.

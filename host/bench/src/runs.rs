@@ -1,8 +1,9 @@
 //! Whole runs.
 
 use crate::problem::{linear, lorenz, rossler, van_der_pol, Problem};
-use crate::race::{same_bits, Race};
-use oracle::{End, Oracle};
+use crate::race::{same_bits, Race, Reference};
+use input::Settings;
+use oracle::{End, Entry};
 use std::hint::black_box;
 
 /// A run's counts.
@@ -19,7 +20,7 @@ impl Counts {
     }
 }
 
-pub fn races(oracle: Option<&Oracle>) -> Result<Vec<Race>, String> {
+pub fn races(source: Reference) -> Result<Vec<Race>, String> {
     let counts = |steps, windows| Counts { steps, windows };
     let problems = [
         (lorenz(), counts(10, 6_000), 0.75),
@@ -32,27 +33,19 @@ pub fn races(oracle: Option<&Oracle>) -> Result<Vec<Race>, String> {
     ];
     let race = |(mut problem, counts, target): (Problem, Counts, f64)| {
         problem.step_size = 0.01;
-        race(oracle.copied(), problem, counts, target)
+        race(source, problem, counts, target)
     };
     problems.into_iter().map(race).collect()
 }
 
-fn race(
-    oracle: Option<Oracle>,
-    problem: Problem,
-    counts: Counts,
-    target: f64,
-) -> Result<Race, String> {
+fn race(source: Reference, problem: Problem, counts: Counts, target: f64) -> Result<Race, String> {
     let name = format!("run, {}, {}", problem.name, counts.pace());
     let mut run = Run::of(problem.clone(), counts);
     run.make();
-    if let Some(oracle) = &oracle {
-        let whole = oracle.estimate_spectrum_at(
-            problem.circuit(),
-            0.0,
-            &problem.state,
-            &settings(&problem, counts),
-        );
+    let settings = run.settings;
+    if let Some(source) = source {
+        let (circuit, start) = (problem.circuit(), problem.start());
+        let whole = source.run(Entry::SpectrumAt, circuit, start, &settings);
         let End::Done(spectrum) = whole.end else {
             return Err(format!("{name}: the source ends with {:?}", whole.end));
         };
@@ -60,11 +53,10 @@ fn race(
         same_bits(&name, &run.exponents, &spectrum.exponents)?;
         same_bits(&name, &run.final_state, &spectrum.final_state)?;
     }
-    let other = oracle.map(|oracle| -> Box<dyn FnMut()> {
+    let other = source.map(|source| -> Box<dyn FnMut()> {
         Box::new(move || {
-            let config = settings(&problem, counts);
             let problem = black_box(&problem);
-            let exponents = oracle.exponents(problem.circuit(), 0.0, &problem.state, &config);
+            let exponents = source.exponents(problem.circuit(), problem.start(), &settings);
             let _ = black_box(exponents);
         })
     });
@@ -77,21 +69,10 @@ fn race(
     })
 }
 
-fn settings(problem: &Problem, counts: Counts) -> oracle::Config {
-    oracle::Config {
-        top_k: problem.top_k,
-        step_size: problem.step_size,
-        steps_per_window: counts.steps as usize,
-        windows: counts.windows as usize,
-        transient_windows: 0,
-        seed: 1,
-    }
-}
-
 /// A run of the library, with its memory.
 pub struct Run {
     problem: Problem,
-    counts: Counts,
+    settings: Settings,
     pub rows: Vec<f64>,
     pub exponents: Vec<f64>,
     pub final_state: Vec<f64>,
@@ -99,26 +80,18 @@ pub struct Run {
 
 impl Run {
     pub fn of(problem: Problem, counts: Counts) -> Self {
-        let (k, d) = (problem.top_k, problem.dimension);
+        let settings = problem.settings(counts.steps, counts.windows);
         Self {
-            rows: vec![0.0; counts.windows as usize * (1 + 2 * k)],
-            exponents: vec![0.0; k],
-            final_state: vec![0.0; d],
+            rows: vec![0.0; settings.rows_length()],
+            exponents: vec![0.0; settings.top_k],
+            final_state: vec![0.0; problem.system.dimension()],
             problem,
-            counts,
+            settings,
         }
     }
 
     pub fn make(&mut self) {
         let problem = black_box(&self.problem);
-        let config = lyapunov_sys::Config {
-            top_k: problem.top_k,
-            step_size: problem.step_size,
-            steps_per_window: self.counts.steps,
-            windows: self.counts.windows,
-            transient_windows: 0,
-            seed: 1,
-        };
         let mut outputs = lyapunov_sys::Outputs {
             rows: &mut self.rows,
             exponents: &mut self.exponents,
@@ -126,13 +99,8 @@ impl Run {
             counts: &mut [0; 19],
             times: &mut [0.0; 2],
         };
-        let number = lyapunov_sys::estimate_spectrum_at(
-            &problem.lent(),
-            0.0,
-            &problem.state,
-            &config,
-            &mut outputs,
-        );
+        let (system, state, settings) = (&problem.system, &problem.state, &self.settings);
+        let number = lyapunov_sys::estimate_spectrum_at(system, 0.0, state, settings, &mut outputs);
         assert_eq!(number, 0, "{}", problem.name);
     }
 }

@@ -1,11 +1,12 @@
 //! The step on its own, many in a row.
 
 use crate::problem::{linear, lorenz, rossler, van_der_pol, Problem};
-use crate::race::{same_bits, Race};
-use oracle::{End, Oracle};
+use crate::race::{same_bits, Race, Reference};
+use lyapunov_sys::Arguments;
+use oracle::{End, Source, Step};
 use std::hint::black_box;
 
-pub fn races(oracle: Option<&Oracle>) -> Result<Vec<Race>, String> {
+pub fn races(source: Reference) -> Result<Vec<Race>, String> {
     let problems = [
         (lorenz(), 20_000, 0.8),
         (rossler(), 20_000, 0.8),
@@ -17,25 +18,20 @@ pub fn races(oracle: Option<&Oracle>) -> Result<Vec<Race>, String> {
         (linear(4, 4), 10_000, 1.0),
         (linear(8, 8), 4_000, 1.0),
     ];
-    let race = |(problem, steps, target)| race(oracle.copied(), problem, steps, target);
+    let race = |(problem, steps, target)| race(source, problem, steps, target);
     problems.into_iter().map(race).collect()
 }
 
-fn race(
-    oracle: Option<Oracle>,
-    problem: Problem,
-    steps: usize,
-    target: f64,
-) -> Result<Race, String> {
+fn race(source: Reference, problem: Problem, steps: usize, target: f64) -> Result<Race, String> {
     let name = format!("step, {}", problem.name);
     let mine = by_library(&problem, steps);
-    if let Some(oracle) = &oracle {
-        same_bits(&name, &mine, &by_source(oracle, &problem, steps)?)?;
+    if let Some(source) = source {
+        same_bits(&name, &mine, &by_source(source, &problem, steps)?)?;
     }
     let copy = problem.clone();
-    let other = oracle.map(|oracle| -> Box<dyn FnMut()> {
+    let other = source.map(|source| -> Box<dyn FnMut()> {
         Box::new(move || {
-            let _ = black_box(by_source(&oracle, black_box(&copy), steps));
+            let _ = black_box(by_source(source, black_box(&copy), steps));
         })
     });
     Ok(Race {
@@ -52,28 +48,26 @@ fn race(
 /// State and directions after `steps` steps.
 fn by_library(problem: &Problem, steps: usize) -> Vec<f64> {
     let (mut state, mut directions) = (problem.state.clone(), problem.directions());
-    let (system, h) = (problem.lent(), problem.step_size);
+    let (system, h) = (Arguments::from(&problem.system), problem.step_size);
     for _ in 0..steps {
         let refusal =
-            lyapunov_sys::step(&system, 0.0, &mut state, &mut directions, problem.top_k, h);
+            lyapunov_sys::step(system, 0.0, &mut state, &mut directions, problem.top_k, h);
         assert_eq!(refusal.number, 0, "{}", problem.name);
     }
     state.extend(directions);
     state
 }
 
-fn by_source(oracle: &Oracle, problem: &Problem, steps: usize) -> Result<Vec<f64>, String> {
+fn by_source(source: &dyn Source, problem: &Problem, steps: usize) -> Result<Vec<f64>, String> {
     let (mut state, mut directions) = (problem.state.clone(), problem.directions());
-    let (count, h) = (problem.top_k, problem.step_size);
-    let end = oracle.steps(
-        problem.circuit(),
-        0.0,
-        h,
-        &mut state,
-        &mut directions,
-        count,
-        steps,
-    );
+    let step = Step {
+        time: 0.0,
+        step_size: problem.step_size,
+        state: &mut state,
+        tangents: &mut directions,
+        count: problem.top_k,
+    };
+    let end = source.steps(problem.circuit(), step, steps);
     if end != End::Done(()) {
         return Err(format!("{}: the source ends with {end:?}", problem.name));
     }

@@ -1,122 +1,164 @@
-//! A system with its lent matrix, as each side takes it.
+//! A system, with what is handed over beside it.
 
 use crate::line::Fields;
 use crate::values::{bits, list, read_count};
+use input::System;
+use lyapunov_sys::Arguments;
 
-#[derive(Clone, Copy, Debug, PartialEq)]
-pub enum System {
-    Lorenz([f64; 3]),
-    Rossler([f64; 3]),
-    VanDerPol(f64),
-    Linear(usize),
-    /// A kind that the C interface does not have: a system of dimension 0.
-    Unknown(u64),
+/// A kind of system, by its number in the C interface.
+pub struct Kind {
+    /// As it stands in a line; a dimension follows where it has one of its own.
+    name: &'static str,
+    pub label: &'static str,
+    parameters: usize,
+    has_dimension: bool,
 }
 
+const fn kind(
+    name: &'static str,
+    label: &'static str,
+    parameters: usize,
+    has_dimension: bool,
+) -> Kind {
+    Kind {
+        name,
+        label,
+        parameters,
+        has_dimension,
+    }
+}
+
+pub const KINDS: [Kind; 4] = [
+    kind("lorenz", ", Lorenz", 3, false),
+    kind("rossler", ", Rossler", 3, false),
+    kind("vdp", ", van der Pol", 1, false),
+    kind("linear", ", linear", 0, true),
+];
+
+/// A system, and what is handed to the library in the arguments that it must not read.
 #[derive(Clone, Debug)]
 pub struct Circuit {
     pub system: System,
-    pub matrix: Vec<f64>,
+    /// A kind that the C interface does not have: a system of dimension 0.
+    unknown: Option<u64>,
+    parameters: [f64; 3],
+    dimension: usize,
+    matrix: Vec<f64>,
 }
 
+/// NaNs, and a dimension that would be refused.
+pub const UNUSED: Arguments = Arguments {
+    kind: 0,
+    parameters: [f64::NAN; 3],
+    dimension: 17,
+    matrix: &[],
+};
+
 impl Circuit {
-    pub fn new(system: System, matrix: Vec<f64>) -> Self {
-        Self { system, matrix }
+    pub fn of(system: System) -> Self {
+        Self::with_unread(system, vec![])
+    }
+
+    /// A system that is lent a matrix which it does not read.
+    pub fn with_unread(system: System, matrix: Vec<f64>) -> Self {
+        Self {
+            system,
+            unknown: None,
+            parameters: UNUSED.parameters,
+            dimension: UNUSED.dimension,
+            matrix,
+        }
+    }
+
+    /// The system that the arguments mean, with the arguments that it does not use.
+    pub fn of_arguments(arguments: Arguments) -> Self {
+        let system = arguments.system();
+        let is_known = Arguments::from(&system).kind == arguments.kind;
+        Self {
+            system,
+            unknown: (!is_known).then_some(arguments.kind),
+            parameters: arguments.parameters,
+            dimension: arguments.dimension,
+            matrix: arguments.matrix.to_vec(),
+        }
+    }
+
+    pub fn arguments(&self) -> Arguments<'_> {
+        let unused = Arguments {
+            kind: self.unknown.unwrap_or(0),
+            parameters: self.parameters,
+            dimension: self.dimension,
+            matrix: &self.matrix,
+        };
+        match self.unknown {
+            Some(_) => unused,
+            None => Arguments::over(&self.system, unused),
+        }
     }
 
     pub fn dimension(&self) -> usize {
-        match self.system {
-            System::Lorenz(_) | System::Rossler(_) => 3,
-            System::VanDerPol(_) => 2,
-            System::Linear(dimension) => dimension,
-            System::Unknown(_) => 0,
-        }
+        self.system.dimension()
+    }
+
+    /// Its kind, where it has one.
+    pub fn kind(&self) -> Option<&'static Kind> {
+        let kind = usize::try_from(self.arguments().kind).ok()?;
+        KINDS.get(kind)
     }
 
     /// Whether test 9 passes.
     pub fn matrix_fits(&self) -> bool {
-        match self.system {
-            System::Linear(d) => d.checked_mul(d) == Some(self.matrix.len()),
+        match &self.system {
+            System::Linear { dimension, matrix } => {
+                dimension.checked_mul(*dimension) == Some(matrix.len())
+            }
             _ => true,
         }
     }
 
     pub fn read(fields: &mut Fields) -> Result<Self, String> {
-        let name = fields.take("sys")?;
-        let parameters = fields.floats("par")?;
-        let system = match (name, name.split_once(':'), parameters.as_slice()) {
-            ("lorenz", _, &[a, b, c]) => System::Lorenz([a, b, c]),
-            ("rossler", _, &[a, b, c]) => System::Rossler([a, b, c]),
-            ("vdp", _, &[mu]) => System::VanDerPol(mu),
-            (_, Some(("linear", d)), []) => System::Linear(read_count(d)? as usize),
-            (_, Some(("kind", kind)), []) => System::Unknown(read_count(kind)?),
-            _ => return Err(format!("{name} with {} parameters", parameters.len())),
+        let text = fields.take("sys")?;
+        let (name, number) = match text.split_once(':') {
+            Some((name, number)) => (name, Some(read_count(number)?)),
+            None => (text, None),
         };
-        Ok(Self::new(system, fields.floats("mat")?))
+        let given = fields.floats("par")?;
+        let matrix = fields.floats("mat")?;
+        let known = KINDS.iter().position(|kind| kind.name == name);
+        let (kind, dimension) = match (known, number) {
+            (Some(at), dimension) if KINDS[at].has_dimension == dimension.is_some() => {
+                (at as u64, dimension)
+            }
+            (None, Some(kind)) if name == "kind" => (kind, None),
+            _ => return Err(format!("no system {text}")),
+        };
+        let wanted = known.map_or(0, |at| KINDS[at].parameters);
+        if given.len() != wanted {
+            return Err(format!("{text} with {} parameters", given.len()));
+        }
+        let mut parameters = UNUSED.parameters;
+        parameters[..wanted].copy_from_slice(&given);
+        Ok(Self::of_arguments(Arguments {
+            kind,
+            parameters,
+            dimension: dimension.map_or(UNUSED.dimension, |dimension| dimension as usize),
+            matrix: &matrix,
+        }))
     }
 
     pub fn written(&self) -> String {
-        let (name, parameters) = match self.system {
-            System::Lorenz(parameters) => ("lorenz".to_string(), parameters.to_vec()),
-            System::Rossler(parameters) => ("rossler".to_string(), parameters.to_vec()),
-            System::VanDerPol(mu) => ("vdp".to_string(), vec![mu]),
-            System::Linear(dimension) => (format!("linear:{dimension}"), vec![]),
-            System::Unknown(kind) => (format!("kind:{kind}"), vec![]),
+        let arguments = self.arguments();
+        let (name, count) = match self.kind() {
+            Some(kind) if kind.has_dimension => (
+                format!("{}:{}", kind.name, arguments.dimension),
+                kind.parameters,
+            ),
+            Some(kind) => (kind.name.to_string(), kind.parameters),
+            None => (format!("kind:{}", arguments.kind), 0),
         };
-        let parameters = list(&parameters, ",", bits);
-        let matrix = list(&self.matrix, ",", bits);
+        let parameters = list(&arguments.parameters[..count], ",", bits);
+        let matrix = list(arguments.matrix, ",", bits);
         format!("sys={name} par={parameters} mat={matrix}")
-    }
-
-    /// For the library, with the matrix at `matrix`. What a system does not use is a NaN or a
-    /// number that would be refused, since it must not be read.
-    pub fn for_library<'a>(&self, matrix: &'a [f64]) -> lyapunov_sys::System<'a> {
-        const UNUSED: usize = 17;
-        let (kind, parameters, dimension) = match self.system {
-            System::Lorenz(parameters) => (0, parameters, UNUSED),
-            System::Rossler(parameters) => (1, parameters, UNUSED),
-            System::VanDerPol(mu) => (2, [mu, f64::NAN, f64::NAN], UNUSED),
-            System::Linear(dimension) => (3, [f64::NAN; 3], dimension),
-            System::Unknown(kind) => (kind, [f64::NAN; 3], UNUSED),
-        };
-        lyapunov_sys::System {
-            kind,
-            parameters,
-            dimension,
-            matrix,
-        }
-    }
-
-    pub fn for_model(&self) -> model::Circuit<'_> {
-        let system = match self.system {
-            System::Lorenz([sigma, rho, beta]) => model::System::Lorenz { sigma, rho, beta },
-            System::Rossler([a, b, c]) => model::System::Rossler { a, b, c },
-            System::VanDerPol(mu) => model::System::VanDerPol { mu },
-            System::Linear(dimension) => model::System::Linear { dimension },
-            System::Unknown(_) => model::System::Linear { dimension: 0 },
-        };
-        model::Circuit {
-            system,
-            matrix: &self.matrix,
-        }
-    }
-
-    pub fn for_source(&self, may_evaluate: bool) -> oracle::Circuit<'_> {
-        let linear = |dimension| oracle::System::Linear {
-            dimension,
-            matrix: &self.matrix,
-        };
-        let system = match self.system {
-            System::Lorenz([sigma, rho, beta]) => oracle::System::Lorenz { sigma, rho, beta },
-            System::Rossler([a, b, c]) => oracle::System::Rossler { a, b, c },
-            System::VanDerPol(mu) => oracle::System::VanDerPol { mu },
-            System::Linear(dimension) => linear(dimension),
-            System::Unknown(_) => linear(0),
-        };
-        oracle::Circuit {
-            system,
-            may_evaluate,
-        }
     }
 }
 
@@ -127,19 +169,19 @@ mod tests {
 
     #[test]
     fn circuits_are_read_as_they_are_written() {
-        for system in [
-            System::Lorenz([10.0, 28.0, -0.0]),
-            System::Rossler([0.2, f64::INFINITY, 5.7]),
-            System::VanDerPol(1.5),
-            System::Linear(2),
-            System::Unknown(4),
-        ] {
-            let circuit = Circuit::new(system, vec![1.0, 2.0]);
+        for kind in 0..=KINDS.len() as u64 {
+            let circuit = Circuit::of_arguments(Arguments {
+                kind,
+                parameters: [10.0, f64::INFINITY, -0.0],
+                dimension: 2,
+                matrix: &[1.0, 2.0],
+            });
             let text = format!("step id=A {} -> num=0", circuit.written());
             let mut line = Line::read(&text).unwrap();
             let read = Circuit::read(&mut line.input).unwrap();
-            assert_eq!(read.system, system);
-            assert_eq!(read.matrix, circuit.matrix);
+            assert_eq!(read.system, circuit.system);
+            assert_eq!(read.written(), circuit.written());
+            assert_eq!(read.arguments().kind, kind);
             assert_eq!(line.input.finish(), Ok(()));
         }
     }
@@ -148,11 +190,21 @@ mod tests {
     fn unknown_systems_are_refused() {
         for text in [
             "step id=A sys=lorenz par=- mat=- -> num=0",
+            "step id=A sys=lorenz:3 par=- mat=- -> num=0",
             "step id=A sys=duffing par=- mat=- -> num=0",
+            "step id=A sys=linear par=- mat=- -> num=0",
             "step id=A sys=linear:x par=- mat=- -> num=0",
         ] {
             let mut line = Line::read(text).unwrap();
             assert!(Circuit::read(&mut line.input).is_err(), "{text}");
         }
+    }
+
+    #[test]
+    fn what_is_not_used_cannot_be_read_unnoticed() {
+        let van_der_pol = Circuit::of(System::VanDerPol { mu: 1.0 });
+        let arguments = van_der_pol.arguments();
+        assert!(arguments.parameters[1..].iter().all(|x| x.is_nan()));
+        assert_eq!(arguments.dimension, 17);
     }
 }

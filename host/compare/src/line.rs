@@ -1,6 +1,6 @@
 //! One line of a list of cases: `KIND id=ID name=value ... -> name=value ... # remark`.
 
-use crate::values::{read_count, read_float, read_list, read_word, Answer, Type, Value};
+use crate::values::{read_count, read_float, read_list, read_word, type_of, Answer, Value};
 
 pub struct Line<'a> {
     pub kind: &'a str,
@@ -81,13 +81,14 @@ impl<'a> Fields<'a> {
         }
     }
 
-    /// The answer whose fields have these names and types. A field `by`, which says where the
-    /// answer comes from, may stand beside them.
-    pub fn answer(mut self, types: &[(&'static str, Type)]) -> Result<Answer, String> {
+    /// The answer whose fields have these names. A field `by`, which says where the answer comes
+    /// from, may stand beside them.
+    pub fn answer(mut self, names: &[&'static str]) -> Result<Answer, String> {
         let mut answer = Answer::default();
         let _ = self.take("by");
-        for (name, as_type) in types {
-            answer = answer.with(name, Value::read(self.take(name)?, *as_type)?);
+        for name in names {
+            let value = Value::read(self.take(name)?, type_of(name)?)?;
+            answer = answer.with(name, value);
         }
         self.finish()?;
         Ok(answer)
@@ -106,13 +107,8 @@ mod tests {
         assert_eq!((line.kind, line.id), ("log", "A1"));
         assert_eq!(line.input.float("x"), Ok(1.0));
         assert_eq!(line.input.finish(), Ok(()));
-        let types = [
-            ("num", Type::Count),
-            ("place", Type::Places),
-            ("y", Type::Float),
-        ];
-        let answer = line.answer.answer(&types).unwrap();
-        assert_eq!(answer, Answer::refusal(0, 0).with("y", Value::Float(0.0)));
+        let answer = line.answer.answer(&["num", "place", "y"]).unwrap();
+        assert_eq!(answer, Answer::done().with("y", Value::Float(0.0)));
     }
 
     #[test]
@@ -132,7 +128,7 @@ mod tests {
     fn fields_that_nobody_asked_for_are_refused() {
         let line = Line::read("root id=A x=0 -> y=0000000000000000 z=1").unwrap();
         assert_eq!(line.input.finish(), Err("unknown field x".to_string()));
-        let answer = line.answer.answer(&[("y", Type::Float)]);
+        let answer = line.answer.answer(&["y"]);
         assert_eq!(answer, Err("unknown field z".to_string()));
     }
 }

@@ -1,15 +1,17 @@
 //! Compares the proved library with the Rust source and with the model of document 01.
 
+mod bytes;
 mod cases;
 mod circuit;
 mod commands;
 mod generate;
+mod lent;
 mod line;
 mod random;
 mod tally;
 mod values;
 
-use commands::Inputs;
+use commands::{Inputs, Limits};
 use std::path::{Path, PathBuf};
 use std::process::ExitCode;
 
@@ -26,6 +28,8 @@ const USAGE: &str = "usage:
   compare from-zero --count N            runs by estimate_spectrum and estimate_largest
   compare pairs --count N                runs for k and for K exponents (demand 3)
   compare rates --count N                dimension and entropy
+  compare fuzz [--seconds N] [--calls N] [--seed S]
+                                         calls from random bytes, for N seconds (20) or N calls
   compare write-list FILE                write the fixed list of answers
 Generated inputs are the same for the same N and the same --seed S, which may follow N.
 Exit status: 0 nothing differs, 1 something differs or was not met, 2 bad usage.";
@@ -49,15 +53,32 @@ fn command(words: &[&str]) -> Result<bool, String> {
         ["cases", file] => replay(file, None),
         ["cases", file, "--program", path] => replay(file, Some(PathBuf::from(path))),
         ["write-list", file] => write_list(file),
+        ["fuzz", limits @ ..] => Ok(commands::fuzz(&read_limits(limits)?)),
         [name, "--count", count] => compare(name, count, DEFAULT_SEED),
         [name, "--count", count, "--seed", seed] => compare(name, count, seed),
         _ => Err(USAGE.to_string()),
     }
 }
 
+fn number(text: &str) -> Result<u64, String> {
+    text.parse().map_err(|_| format!("{text} is no number"))
+}
+
+fn read_limits(words: &[&str]) -> Result<Limits, String> {
+    let mut limits = Limits::default();
+    for pair in words.chunks(2) {
+        match pair {
+            ["--seconds", value] => limits.seconds = number(value)?,
+            ["--calls", value] => limits.calls = number(value)?,
+            ["--seed", value] => limits.seed = number(value)?,
+            _ => return Err(USAGE.to_string()),
+        }
+    }
+    Ok(limits)
+}
+
 /// Runs the comparison `name` on generated inputs.
 fn compare(name: &str, count: &str, seed: &str) -> Result<bool, String> {
-    let number = |text: &str| text.parse().map_err(|_| format!("{text} is no number"));
     let inputs = Inputs {
         count: number(count)?,
         seed: number(seed)?,

@@ -1,9 +1,10 @@
 //! Values of a case's answer: how they are written, read and compared.
 
+use input::Refusal;
 use std::fmt::Write as _;
 
 /// It is written as `.` in an answer.
-pub use lent::FILLING;
+pub use crate::lent::FILLING;
 
 /// How every NaN is written in an answer.
 const NAN_BITS: u64 = 0x7ff8_0000_0000_0000;
@@ -44,6 +45,30 @@ pub enum Type {
     Counts,
     Words,
     Text,
+}
+
+/// The type of each field that an answer may have.
+const TYPES: [(Type, &[&str]); 7] = [
+    (Type::Count, &["num", "finished", "made"]),
+    (Type::Places, &["place"]),
+    (Type::Float, &["y", "ftime", "mtime", "dim", "ent"]),
+    (
+        Type::Floats,
+        &[
+            "values", "dirs", "numbers", "state", "rows", "exps", "final",
+        ],
+    ),
+    (Type::Counts, &["faint"]),
+    (Type::Words, &["states", "outs"]),
+    (Type::Text, &["out"]),
+];
+
+/// The type of the field `name`.
+pub fn type_of(name: &str) -> Result<Type, String> {
+    let known = TYPES.iter().find(|(_, names)| names.contains(&name));
+    known
+        .map(|(as_type, _)| *as_type)
+        .ok_or_else(|| format!("unknown field {name}"))
 }
 
 impl Value {
@@ -166,10 +191,20 @@ pub struct Answer {
 
 impl Answer {
     /// An answer that begins with a refusal's number, 0 for none, and its place.
-    pub fn refusal(number: u64, place: u64) -> Self {
+    pub fn refusal(refusal: Refusal) -> Self {
+        Self::of_number(refusal.number, Value::Places(vec![refusal.place]))
+    }
+
+    /// An answer that begins with a refusal's number and the places that it may have.
+    pub fn of_number(number: u64, places: Value) -> Self {
         Self::default()
             .with("num", Value::Count(number))
-            .with("place", Value::Places(vec![place]))
+            .with("place", places)
+    }
+
+    /// The answer of what was not refused, as far as it begins.
+    pub fn done() -> Self {
+        Self::refusal(Refusal::NONE)
     }
 
     pub fn with(mut self, name: &'static str, value: Value) -> Self {
@@ -258,11 +293,13 @@ mod tests {
 
     #[test]
     fn the_first_difference_is_named() {
-        let expected = Answer::refusal(14, 1).with("dim", Value::Float(2.5));
-        let actual = Answer::refusal(14, 2).with("dim", Value::Float(2.0));
+        let expected = Answer::refusal(Refusal::at(14, 1)).with("dim", Value::Float(2.5));
+        let actual = Answer::refusal(Refusal::at(14, 2)).with("dim", Value::Float(2.0));
         let difference = expected.difference(&actual);
         assert_eq!(difference.as_deref(), Some("place is 2, expected 1"));
         assert_eq!(expected.difference(&expected), None);
-        assert!(expected.difference(&Answer::refusal(14, 1)).is_some());
+        assert!(expected
+            .difference(&Answer::refusal(Refusal::at(14, 1)))
+            .is_some());
     }
 }

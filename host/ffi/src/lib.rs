@@ -3,56 +3,56 @@
 //! This is the only package with unsafe code. Each call hands over slices as pointer and length,
 //! and numbers as they are. The library has no `requires`: it refuses what does not fit, so
 //! nothing has to be tested here. A place starts as `UNWRITTEN`, so that a caller sees whether
-//! the library wrote it.
+//! the library wrote it. A refusal with the number 0 is none.
 
-mod raw;
+mod arguments;
 
-/// The groups of functions that this build links; a call of another group panics.
-pub const LINKED: Groups = Groups {
-    leaves: cfg!(feature = "leaves"),
-    step: cfg!(feature = "step"),
-    run: cfg!(feature = "run"),
-    rates: cfg!(feature = "rates"),
-};
+pub use arguments::Arguments;
 
-#[derive(Clone, Copy, Debug)]
-pub struct Groups {
-    pub leaves: bool,
-    pub step: bool,
-    pub run: bool,
-    pub rates: bool,
+use input::{Refusal, Settings};
+
+/// The declarations of the header, by `build.rs`.
+mod raw {
+    include!(concat!(env!("OUT_DIR"), "/raw.rs"));
+}
+
+/// Calls a function of the C interface. Its arguments are named in the order of the header, with a
+/// word before each that says how it is handed over: a `system`, the `settings` of a run or some
+/// `fields` of them, a slice to `read` or to `write`, the `outputs` of a run, or a single `value`.
+macro_rules! call {
+    (@ $function:ident [$($done:tt)*] system $of:ident, $($rest:tt)*) => {
+        call!(@ $function [$($done)* $of.kind, $of.parameters[0], $of.parameters[1],
+            $of.parameters[2], $of.dimension, $of.matrix.as_ptr(), $of.matrix.len(),] $($rest)*)
+    };
+    (@ $function:ident [$($done:tt)*] settings $of:ident, $($rest:tt)*) => {
+        call!(@ $function [$($done)*] fields $of [top_k, step_size, steps_per_window, windows,
+            transient_windows, seed], $($rest)*)
+    };
+    (@ $function:ident [$($done:tt)*] fields $of:ident [$($field:ident),*], $($rest:tt)*) => {
+        call!(@ $function [$($done)* $($of.$field,)*] $($rest)*)
+    };
+    (@ $function:ident [$($done:tt)*] read $slice:expr, $($rest:tt)*) => {
+        call!(@ $function [$($done)* $slice.as_ptr(), $slice.len(),] $($rest)*)
+    };
+    (@ $function:ident [$($done:tt)*] write $slice:expr, $($rest:tt)*) => {
+        call!(@ $function [$($done)* $slice.as_mut_ptr(), $slice.len(),] $($rest)*)
+    };
+    (@ $function:ident [$($done:tt)*] outputs $of:ident, $($rest:tt)*) => {
+        call!(@ $function [$($done)*] write $of.rows, write $of.exponents, write $of.final_state,
+            value $of.counts.as_mut_ptr(), value $of.times.as_mut_ptr(), $($rest)*)
+    };
+    (@ $function:ident [$($done:tt)*] value $value:expr, $($rest:tt)*) => {
+        call!(@ $function [$($done)* $value,] $($rest)*)
+    };
+    // SAFETY: every pointer comes with the length of its slice, or is that of one number or of an
+    // array of the length that the header names. No two slices that are written overlap, since
+    // each is borrowed mutably.
+    (@ $function:ident [$($done:tt)*]) => { unsafe { raw::$function($($done)*) } };
+    ($function:ident($($argument:tt)*)) => { call!(@ $function [] $($argument)*) };
 }
 
 /// What a number holds until the library writes it.
 pub const UNWRITTEN: u64 = u64::MAX;
-
-/// The number of a refusal, 0 for none, and its place.
-#[derive(Clone, Copy, Debug, PartialEq, Eq)]
-pub struct Refusal {
-    pub number: u64,
-    pub place: u64,
-}
-
-/// The choice of a system, as the C interface takes it.
-#[derive(Clone, Copy, Debug)]
-pub struct System<'a> {
-    /// 0 Lorenz, 1 Rössler, 2 van der Pol, 3 linear; another has dimension 0.
-    pub kind: u64,
-    pub parameters: [f64; 3],
-    /// Read for a linear system only, as is the matrix.
-    pub dimension: usize,
-    pub matrix: &'a [f64],
-}
-
-#[derive(Clone, Copy, Debug)]
-pub struct Config {
-    pub top_k: usize,
-    pub step_size: f64,
-    pub steps_per_window: u64,
-    pub windows: u64,
-    pub transient_windows: u64,
-    pub seed: u64,
-}
 
 /// What a run may write.
 #[derive(Debug)]
@@ -66,230 +66,121 @@ pub struct Outputs<'a> {
     pub times: &'a mut [f64; 2],
 }
 
+/// The refusal of a call that answers its number and writes its place.
+fn refusal(call: impl FnOnce(&mut u64) -> u64) -> Refusal {
+    let mut place = UNWRITTEN;
+    let number = call(&mut place);
+    Refusal { number, place }
+}
+
 pub fn sqrt(x: f64) -> f64 {
-    // SAFETY: numbers only.
-    unsafe { raw::lyapunov_sqrt(x) }
+    call!(lyapunov_sqrt(value x,))
 }
 
 /// The refusal's number, 0 or 24; `out` is written where it is 0.
 pub fn ln(x: f64, out: &mut f64) -> u64 {
-    // SAFETY: `out` is one float.
-    unsafe { raw::lyapunov_ln(x, out) }
+    call!(lyapunov_ln(value x, value out,))
 }
 
 /// The state after `state`.
 pub fn splitmix64_next(state: u64) -> u64 {
-    // SAFETY: numbers only.
-    unsafe { raw::lyapunov_splitmix64_next(state) }
+    call!(lyapunov_splitmix64_next(value state,))
 }
 
 /// The output of a state.
 pub fn splitmix64_value(state: u64) -> u64 {
-    // SAFETY: numbers only.
-    unsafe { raw::lyapunov_splitmix64_value(state) }
+    call!(lyapunov_splitmix64_value(value state,))
 }
 
 /// The draw of an output.
-pub fn splitmix64_symmetric_unit(value: u64) -> f64 {
-    // SAFETY: numbers only.
-    unsafe { raw::lyapunov_splitmix64_symmetric_unit(value) }
+pub fn splitmix64_symmetric_unit(output: u64) -> f64 {
+    call!(lyapunov_splitmix64_symmetric_unit(value output,))
 }
 
-pub fn modified_gram_schmidt(
-    tangents: &mut [f64],
-    dimension: usize,
-    norms: &mut [f64],
-) -> Refusal {
-    let mut place = UNWRITTEN;
-    // SAFETY: each pointer comes with the length of its slice, and the slices do not overlap.
-    let number = unsafe {
-        raw::lyapunov_modified_gram_schmidt(
-            tangents.as_mut_ptr(),
-            tangents.len(),
-            dimension,
-            norms.as_mut_ptr(),
-            norms.len(),
-            &mut place,
-        )
-    };
-    Refusal { number, place }
+pub fn modified_gram_schmidt(tangents: &mut [f64], dimension: usize, norms: &mut [f64]) -> Refusal {
+    refusal(|place| {
+        call!(lyapunov_modified_gram_schmidt(
+            write tangents, value dimension, write norms, value place,
+        ))
+    })
 }
 
-pub fn step(
-    system: &System,
+pub fn step<'a>(
+    system: impl Into<Arguments<'a>>,
     time: f64,
     state: &mut [f64],
     tangents: &mut [f64],
     count: usize,
     step_size: f64,
 ) -> Refusal {
-    let [p0, p1, p2] = system.parameters;
-    let mut place = UNWRITTEN;
-    // SAFETY: each pointer comes with the length of its slice, and the slices do not overlap.
-    let number = unsafe {
-        raw::lyapunov_step(
-            system.kind,
-            p0,
-            p1,
-            p2,
-            system.dimension,
-            system.matrix.as_ptr(),
-            system.matrix.len(),
-            time,
-            state.as_mut_ptr(),
-            state.len(),
-            tangents.as_mut_ptr(),
-            tangents.len(),
-            count,
-            step_size,
-            &mut place,
-        )
-    };
-    Refusal { number, place }
+    let system = system.into();
+    refusal(|place| {
+        call!(lyapunov_step(
+            system system, value time, write state, write tangents, value count, value step_size,
+            value place,
+        ))
+    })
 }
 
 /// Tests 1 to 5 of settings with no warm-up windows.
-pub fn build_config(top_k: usize, step_size: f64, steps_per_window: u64, windows: u64) -> Refusal {
-    let mut place = UNWRITTEN;
-    // SAFETY: `place` is one number.
-    let number = unsafe {
-        raw::lyapunov_build_config(top_k, step_size, steps_per_window, windows, &mut place)
-    };
-    Refusal { number, place }
+pub fn build_config(settings: &Settings) -> Refusal {
+    refusal(|place| {
+        call!(lyapunov_build_config(
+            fields settings [top_k, step_size, steps_per_window, windows], value place,
+        ))
+    })
 }
 
 /// A run; answers the refusal's number, 0 for none.
-pub fn estimate_spectrum_at(
-    system: &System,
+pub fn estimate_spectrum_at<'a>(
+    system: impl Into<Arguments<'a>>,
     time: f64,
     state: &[f64],
-    config: &Config,
+    settings: &Settings,
     outputs: &mut Outputs,
 ) -> u64 {
-    let [p0, p1, p2] = system.parameters;
-    // SAFETY: each pointer comes with the length of its slice or is an array of the fixed length
-    // that the interface states, and they do not overlap.
-    unsafe {
-        raw::lyapunov_estimate_spectrum_at(
-            system.kind,
-            p0,
-            p1,
-            p2,
-            system.dimension,
-            system.matrix.as_ptr(),
-            system.matrix.len(),
-            time,
-            state.as_ptr(),
-            state.len(),
-            config.top_k,
-            config.step_size,
-            config.steps_per_window,
-            config.windows,
-            config.transient_windows,
-            config.seed,
-            outputs.rows.as_mut_ptr(),
-            outputs.rows.len(),
-            outputs.exponents.as_mut_ptr(),
-            outputs.exponents.len(),
-            outputs.final_state.as_mut_ptr(),
-            outputs.final_state.len(),
-            outputs.counts.as_mut_ptr(),
-            outputs.times.as_mut_ptr(),
-        )
-    }
+    let system = system.into();
+    call!(lyapunov_estimate_spectrum_at(
+        system system, value time, read state, settings settings, outputs outputs,
+    ))
 }
 
 /// A run from time 0.
-pub fn estimate_spectrum(
-    system: &System,
+pub fn estimate_spectrum<'a>(
+    system: impl Into<Arguments<'a>>,
     state: &[f64],
-    config: &Config,
+    settings: &Settings,
     outputs: &mut Outputs,
 ) -> u64 {
-    let [p0, p1, p2] = system.parameters;
-    // SAFETY: as for `estimate_spectrum_at`.
-    unsafe {
-        raw::lyapunov_estimate_spectrum(
-            system.kind,
-            p0,
-            p1,
-            p2,
-            system.dimension,
-            system.matrix.as_ptr(),
-            system.matrix.len(),
-            state.as_ptr(),
-            state.len(),
-            config.top_k,
-            config.step_size,
-            config.steps_per_window,
-            config.windows,
-            config.transient_windows,
-            config.seed,
-            outputs.rows.as_mut_ptr(),
-            outputs.rows.len(),
-            outputs.exponents.as_mut_ptr(),
-            outputs.exponents.len(),
-            outputs.final_state.as_mut_ptr(),
-            outputs.final_state.len(),
-            outputs.counts.as_mut_ptr(),
-            outputs.times.as_mut_ptr(),
-        )
-    }
+    let system = system.into();
+    call!(lyapunov_estimate_spectrum(
+        system system, read state, settings settings, outputs outputs,
+    ))
 }
 
-/// A run from time 0 for the largest exponent, with no warm-up windows and the default seed.
-pub fn estimate_largest(
-    system: &System,
+/// A run from time 0 for the largest exponent, with no warm-up windows and the default seed. The
+/// other settings are not read.
+pub fn estimate_largest<'a>(
+    system: impl Into<Arguments<'a>>,
     state: &[f64],
-    step_size: f64,
-    steps_per_window: u64,
-    windows: u64,
+    settings: &Settings,
     outputs: &mut Outputs,
 ) -> u64 {
-    let [p0, p1, p2] = system.parameters;
-    // SAFETY: as for `estimate_spectrum_at`.
-    unsafe {
-        raw::lyapunov_estimate_largest(
-            system.kind,
-            p0,
-            p1,
-            p2,
-            system.dimension,
-            system.matrix.as_ptr(),
-            system.matrix.len(),
-            state.as_ptr(),
-            state.len(),
-            step_size,
-            steps_per_window,
-            windows,
-            outputs.rows.as_mut_ptr(),
-            outputs.rows.len(),
-            outputs.exponents.as_mut_ptr(),
-            outputs.exponents.len(),
-            outputs.final_state.as_mut_ptr(),
-            outputs.final_state.len(),
-            outputs.counts.as_mut_ptr(),
-            outputs.times.as_mut_ptr(),
-        )
-    }
+    let system = system.into();
+    call!(lyapunov_estimate_largest(
+        system system, read state, fields settings [step_size, steps_per_window, windows],
+        outputs outputs,
+    ))
 }
 
 /// `out` is written where the refusal's number is 0.
 pub fn kaplan_yorke_dimension(exponents: &[f64], out: &mut f64) -> Refusal {
-    let mut place = UNWRITTEN;
-    // SAFETY: the pointer comes with the length of its slice; `out` and `place` are single.
-    let number = unsafe {
-        raw::lyapunov_kaplan_yorke_dimension(exponents.as_ptr(), exponents.len(), out, &mut place)
-    };
-    Refusal { number, place }
+    refusal(|place| call!(lyapunov_kaplan_yorke_dimension(read exponents, value out, value place,)))
 }
 
 /// `out` is written where the refusal's number is 0.
 pub fn kolmogorov_sinai_entropy(exponents: &[f64], out: &mut f64) -> Refusal {
-    let mut place = UNWRITTEN;
-    // SAFETY: the pointer comes with the length of its slice; `out` and `place` are single.
-    let number = unsafe {
-        raw::lyapunov_kolmogorov_sinai_entropy(exponents.as_ptr(), exponents.len(), out, &mut place)
-    };
-    Refusal { number, place }
+    refusal(
+        |place| call!(lyapunov_kolmogorov_sinai_entropy(read exponents, value out, value place,)),
+    )
 }

@@ -2,6 +2,7 @@
 
 use crate::error::answered;
 use crate::Result;
+use input::Refusal;
 
 /// The square root of IEEE 754, rounded to nearest.
 ///
@@ -23,7 +24,7 @@ pub fn sqrt(x: f64) -> f64 {
 pub fn ln(x: f64) -> Result<f64> {
     let mut out = 0.0;
     let number = lyapunov_sys::ln(x, &mut out);
-    answered(number, 0).map(|()| out)
+    answered(Refusal::of(number)).map(|()| out)
 }
 
 /// The generator that draws the directions of a run.

@@ -17,7 +17,7 @@ use crate::Result;
 pub fn kaplan_yorke_dimension(exponents: &[f64]) -> Result<f64> {
     let mut out = 0.0;
     let refusal = lyapunov_sys::kaplan_yorke_dimension(exponents, &mut out);
-    answered(refusal.number, refusal.place).map(|()| out)
+    answered(refusal).map(|()| out)
 }
 
 /// The sum of the exponents above 0, of 1 to 256 finite ones: the spectrum's side of Pesin's
@@ -33,5 +33,5 @@ pub fn kaplan_yorke_dimension(exponents: &[f64]) -> Result<f64> {
 pub fn kolmogorov_sinai_entropy(exponents: &[f64]) -> Result<f64> {
     let mut out = 0.0;
     let refusal = lyapunov_sys::kolmogorov_sinai_entropy(exponents, &mut out);
-    answered(refusal.number, refusal.place).map(|()| out)
+    answered(refusal).map(|()| out)
 }

@@ -1,6 +1,7 @@
 //! Why something is refused.
 
 use core::fmt;
+use input::Refusal;
 
 /// A refusal. A case holds its place where it has one.
 ///
@@ -150,14 +151,14 @@ impl LyapunovError {
 }
 
 /// What the library answers, as a `Result`: 0 is no refusal.
-pub(crate) fn answered(number: u64, place: u64) -> crate::Result<()> {
-    if number == 0 {
+pub(crate) fn answered(refusal: Refusal) -> crate::Result<()> {
+    if refusal.number == 0 {
         return Ok(());
     }
-    match LyapunovError::from_number(number, place as usize) {
+    match LyapunovError::from_number(refusal.number, refusal.place as usize) {
         Some(error) => Err(error),
         // Proved of the library, whatever it is handed.
-        None => unreachable!("the library has no refusal {number}"),
+        None => unreachable!("the library has no refusal {}", refusal.number),
     }
 }
 

@@ -48,5 +48,5 @@ pub fn modified_gram_schmidt_into(
     numbers: &mut [f64],
 ) -> Result<()> {
     let refusal = lyapunov_sys::modified_gram_schmidt(tangents, dimension, numbers);
-    answered(refusal.number, refusal.place)
+    answered(refusal)
 }

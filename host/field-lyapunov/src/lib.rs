@@ -30,34 +30,31 @@
 #![warn(missing_docs)]
 
 mod arithmetic;
+mod config;
 mod diagnostics;
 mod error;
+mod estimate;
 mod estimator;
 mod gram_schmidt;
 mod memory;
-mod system;
+mod rk4;
 
 pub use arithmetic::{ln, sqrt, SplitMix64};
+pub use config::BenettinConfig;
 pub use diagnostics::{kaplan_yorke_dimension, kolmogorov_sinai_entropy};
 pub use error::LyapunovError;
-pub use estimator::{
-    estimate_largest, estimate_spectrum, estimate_spectrum_at, BenettinConfig, FiniteTimeEstimate,
-    RefusedRun, SpectrumEstimate,
-};
+pub use estimate::{FiniteTimeEstimate, RefusedRun, SpectrumEstimate};
+pub use estimator::{estimate_largest, estimate_spectrum, estimate_spectrum_at};
 pub use gram_schmidt::{modified_gram_schmidt, modified_gram_schmidt_into};
-pub use system::{Rk4, System};
-
-/// The largest dimension of a system, and the most directions of a step.
-pub const MAX_DIMENSION: usize = 16;
+#[doc(inline)]
+pub use input::{System, DEFAULT_SEED, MAX_DIMENSION};
+pub use rk4::Rk4;
 
 /// The largest number of steps a window, of measured windows and of warm-up windows, each.
-pub const MAX_COUNT: usize = 16_777_216;
+pub const MAX_COUNT: usize = input::MAX_COUNT as usize;
 
 /// The most exponents of a dimension or an entropy.
 pub const MAX_EXPONENTS: usize = 256;
-
-/// The seed of settings for which no other is set.
-pub const DEFAULT_SEED: u64 = 0x4c59_4150_554e_4f56;
 
 /// An answer, or why there is none.
 pub type Result<T> = core::result::Result<T, LyapunovError>;

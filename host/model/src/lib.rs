@@ -17,34 +17,10 @@ pub use arithmetic::{
 };
 pub use orthonormalise::orthonormalise;
 pub use rates::{entropy, kaplan_yorke_dimension, spectrum_program};
-pub use run::{
-    build_config, counts_over_limit, estimate, estimate_largest, estimate_spectrum, Config,
-    Estimate, Outputs, COUNT_LIMIT, DEFAULT_SEED,
-};
+pub use run::{build_config, counts_over_limit, estimate, validate, Estimate, Outputs};
 pub use step::step;
-pub use system::{Circuit, System};
 
-/// The largest dimension, and the largest number of directions of a step.
-pub const MAX_DIMENSION: usize = 16;
-
-/// A refusal of document 01: its number and its place.
-#[derive(Clone, Copy, Debug, PartialEq, Eq)]
-pub struct Refusal {
-    pub number: u64,
-    pub place: u64,
-}
-
-impl Refusal {
-    /// The refusal `number`, where no place is stated.
-    pub const fn of(number: u64) -> Self {
-        Self::at(number, 0)
-    }
-
-    /// The refusal `number` at `place`.
-    pub const fn at(number: u64, place: u64) -> Self {
-        Self { number, place }
-    }
-}
+use input::Refusal;
 
 /// The first index of an entry that is not finite.
 fn first_not_finite(values: &[f64]) -> Option<u64> {

@@ -1,14 +1,11 @@
 //! Modified Gram-Schmidt, twice for each direction.
 
-use crate::{logarithm, square_root, Refusal};
+use crate::{logarithm, square_root};
+use input::Refusal;
 
 /// Orthonormalises the directions of length `d` that lie one after the other; writes their
 /// logarithms and then their squared lengths into `norms`.
-pub fn orthonormalise(
-    directions: &mut [f64],
-    d: usize,
-    norms: &mut [f64],
-) -> Result<(), Refusal> {
+pub fn orthonormalise(directions: &mut [f64], d: usize, norms: &mut [f64]) -> Result<(), Refusal> {
     if d == 0 {
         return Err(Refusal::of(7));
     }

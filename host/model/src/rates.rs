@@ -1,6 +1,7 @@
 //! Dimension, entropy and the program that prints them.
 
-use crate::{first_not_finite, Refusal};
+use crate::first_not_finite;
+use input::Refusal;
 
 const MAX_RATES: usize = 256;
 const MAX_BYTES: usize = 8 * MAX_RATES;

@@ -1,25 +1,26 @@
 //! One Runge-Kutta step of a state and its directions.
 
-use crate::system::Point;
-use crate::{first_not_finite, refuse_if, Circuit, Refusal, MAX_DIMENSION};
+use crate::system::{field, tangent, tests, Point};
+use crate::{first_not_finite, refuse_if};
+use input::{Refusal, System, MAX_DIMENSION};
 
 /// A step on its own: tests 7, 8, 9, 10, 19, 6, 2, then 16 and 17 on the moved values.
 pub fn step(
-    circuit: &Circuit,
+    system: &System,
     time: f64,
     h: f64,
     state: &mut [f64],
     directions: &mut [f64],
     count: usize,
 ) -> Result<(), Refusal> {
-    circuit.tests()?;
-    let d = circuit.dimension();
+    tests(system)?;
+    let d = system.dimension();
     refuse_if(state.len() != d, Refusal::of(10))?;
     let fitting = count <= 16 && directions.len() == d * count;
     refuse_if(!fitting, Refusal::of(19))?;
     refuse_if(!time.is_finite(), Refusal::of(6))?;
     refuse_if(!is_step_size(h), Refusal::of(2))?;
-    advance(circuit, h, state, directions)
+    advance(system, h, state, directions)
 }
 
 pub(crate) fn is_step_size(h: f64) -> bool {
@@ -28,15 +29,15 @@ pub(crate) fn is_step_size(h: f64) -> bool {
 
 /// The step itself, with tests 16 and 17.
 pub(crate) fn advance(
-    circuit: &Circuit,
+    system: &System,
     h: f64,
     state: &mut [f64],
     directions: &mut [f64],
 ) -> Result<(), Refusal> {
     let d = state.len();
-    let (stages, moved) = runge_kutta(state, h, |_, p| circuit.field(p));
+    let (stages, moved) = runge_kutta(state, h, |_, p| field(system, p));
     for direction in directions.chunks_mut(d) {
-        let along = |stage: usize, t: &Point| circuit.tangent(&stages[stage], t);
+        let along = |stage: usize, t: &Point| tangent(system, &stages[stage], t);
         let (_, moved) = runge_kutta(direction, h, along);
         direction.copy_from_slice(&moved[..d]);
     }
@@ -82,13 +83,10 @@ fn runge_kutta(
 #[cfg(test)]
 mod tests {
     use super::*;
-    use crate::System;
 
-    fn linear(dimension: usize, matrix: &[f64]) -> Circuit<'_> {
-        Circuit {
-            system: System::Linear { dimension },
-            matrix,
-        }
+    fn linear(dimension: usize, matrix: &[f64]) -> System {
+        let matrix = matrix.to_vec();
+        System::Linear { dimension, matrix }
     }
 
     #[test]
@@ -114,8 +112,8 @@ mod tests {
             let matrix = vec![0.0; n];
             let mut state = vec![0.0; state];
             let mut directions = vec![0.0; 2 * count.min(17)];
-            let circuit = linear(d, &matrix);
-            step(&circuit, time, h, &mut state, &mut directions, count)
+            let system = linear(d, &matrix);
+            step(&system, time, h, &mut state, &mut directions, count)
         };
         assert_eq!(ask(0, 1, 1, 17, f64::NAN, 0.0), Err(Refusal::of(7)));
         assert_eq!(ask(17, 1, 1, 17, f64::NAN, 0.0), Err(Refusal::of(8)));
@@ -131,8 +129,8 @@ mod tests {
     fn refused_values_stay() {
         let mut state = [0.0, 0.0];
         let mut directions = [1.0, 0.0];
-        let circuit = linear(2, &[0.0, 0.0, 1e308, 0.0]);
-        let answer = step(&circuit, 0.0, 1.0, &mut state, &mut directions, 1);
+        let system = linear(2, &[0.0, 0.0, 1e308, 0.0]);
+        let answer = step(&system, 0.0, 1.0, &mut state, &mut directions, 1);
         assert_eq!(answer, Err(Refusal::at(17, 1)));
         assert_eq!(directions, [1.0, f64::INFINITY]);
     }

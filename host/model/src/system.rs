@@ -1,97 +1,75 @@
 //! The four systems, with their operations in document 01's order.
 
-use crate::{Refusal, MAX_DIMENSION};
+use crate::refuse_if;
+use input::{Refusal, System, MAX_DIMENSION};
 
 /// A vector of up to 16 entries; those past the dimension are 0 and unused.
 pub(crate) type Point = [f64; MAX_DIMENSION];
 
-#[derive(Clone, Copy, Debug)]
-pub enum System {
-    Lorenz { sigma: f64, rho: f64, beta: f64 },
-    Rossler { a: f64, b: f64, c: f64 },
-    VanDerPol { mu: f64 },
-    Linear { dimension: usize },
+/// Tests 7, 8 and 9.
+pub(crate) fn tests(system: &System) -> Result<(), Refusal> {
+    let d = system.dimension();
+    refuse_if(d == 0, Refusal::of(7))?;
+    refuse_if(d > MAX_DIMENSION, Refusal::of(8))?;
+    match system {
+        System::Linear { matrix, .. } => refuse_if(matrix.len() != d * d, Refusal::of(9)),
+        _ => Ok(()),
+    }
 }
 
-/// A system with the matrix that is lent with it.
-#[derive(Clone, Copy, Debug)]
-pub struct Circuit<'a> {
-    pub system: System,
-    pub matrix: &'a [f64],
+/// The derivative of the state at `p`.
+pub(crate) fn field(system: &System, p: &Point) -> Point {
+    let [x, y, z] = [p[0], p[1], p[2]];
+    match *system {
+        System::Lorenz { sigma, rho, beta } => {
+            let first = sigma * (y - x);
+            let second = (x * (rho - z)) - y;
+            let third = (x * y) - (beta * z);
+            point([first, second, third])
+        }
+        System::Rossler { a, b, c } => {
+            let first = (-y) - z;
+            let second = x + (a * y);
+            let third = b + (z * (x - c));
+            point([first, second, third])
+        }
+        System::VanDerPol { mu } => {
+            let second = ((mu * (1.0 - (x * x))) * y) - x;
+            point([y, second])
+        }
+        System::Linear {
+            dimension,
+            ref matrix,
+        } => product(matrix, dimension, p),
+    }
 }
 
-impl Circuit<'_> {
-    pub fn dimension(&self) -> usize {
-        match self.system {
-            System::Lorenz { .. } | System::Rossler { .. } => 3,
-            System::VanDerPol { .. } => 2,
-            System::Linear { dimension } => dimension,
+/// The derivative of the direction `t` at the state `p`.
+pub(crate) fn tangent(system: &System, p: &Point, t: &Point) -> Point {
+    let [x, y, z] = [p[0], p[1], p[2]];
+    let [u, v, w] = [t[0], t[1], t[2]];
+    match *system {
+        System::Lorenz { sigma, rho, beta } => {
+            let first = sigma * (v - u);
+            let second = (((rho - z) * u) - v) - (x * w);
+            let third = ((y * u) + (x * v)) - (beta * w);
+            point([first, second, third])
         }
-    }
-
-    /// Tests 7, 8 and 9.
-    pub(crate) fn tests(&self) -> Result<(), Refusal> {
-        let d = self.dimension();
-        if d == 0 {
-            return Err(Refusal::of(7));
+        System::Rossler { a, b: _, c } => {
+            let first = (-v) - w;
+            let second = u + (a * v);
+            let third = (z * u) + ((x - c) * w);
+            point([first, second, third])
         }
-        if d > MAX_DIMENSION {
-            return Err(Refusal::of(8));
+        System::VanDerPol { mu } => {
+            let left = ((((-2.0 * mu) * x) * y) - 1.0) * u;
+            let right = (mu * (1.0 - (x * x))) * v;
+            point([v, left + right])
         }
-        match self.system {
-            System::Linear { .. } if self.matrix.len() != d * d => Err(Refusal::of(9)),
-            _ => Ok(()),
-        }
-    }
-
-    /// The derivative of the state at `p`.
-    pub(crate) fn field(&self, p: &Point) -> Point {
-        let [x, y, z] = [p[0], p[1], p[2]];
-        match self.system {
-            System::Lorenz { sigma, rho, beta } => {
-                let first = sigma * (y - x);
-                let second = (x * (rho - z)) - y;
-                let third = (x * y) - (beta * z);
-                point([first, second, third])
-            }
-            System::Rossler { a, b, c } => {
-                let first = (-y) - z;
-                let second = x + (a * y);
-                let third = b + (z * (x - c));
-                point([first, second, third])
-            }
-            System::VanDerPol { mu } => {
-                let second = ((mu * (1.0 - (x * x))) * y) - x;
-                point([y, second])
-            }
-            System::Linear { dimension } => product(self.matrix, dimension, p),
-        }
-    }
-
-    /// The derivative of the direction `t` at the state `p`.
-    pub(crate) fn tangent(&self, p: &Point, t: &Point) -> Point {
-        let [x, y, z] = [p[0], p[1], p[2]];
-        let [u, v, w] = [t[0], t[1], t[2]];
-        match self.system {
-            System::Lorenz { sigma, rho, beta } => {
-                let first = sigma * (v - u);
-                let second = (((rho - z) * u) - v) - (x * w);
-                let third = ((y * u) + (x * v)) - (beta * w);
-                point([first, second, third])
-            }
-            System::Rossler { a, b: _, c } => {
-                let first = (-v) - w;
-                let second = u + (a * v);
-                let third = (z * u) + ((x - c) * w);
-                point([first, second, third])
-            }
-            System::VanDerPol { mu } => {
-                let left = ((((-2.0 * mu) * x) * y) - 1.0) * u;
-                let right = (mu * (1.0 - (x * x))) * v;
-                point([v, left + right])
-            }
-            System::Linear { dimension } => product(self.matrix, dimension, t),
-        }
+        System::Linear {
+            dimension,
+            ref matrix,
+        } => product(matrix, dimension, t),
     }
 }
 

@@ -1,132 +1,75 @@
-//! The oracle over the source.
+//! The source, asked.
 
 use crate::systems::is_stop;
 use crate::{
-    source, Circuit, Config, End, LyapunovError, Refusal, Result, Run, SourceNotAvailable,
-    Spectrum, TangentStepper, Turn,
+    files, Circuit, End, Entry, LyapunovError, Result, Run, Source, Spectrum, Start, Step,
+    TangentStepper, Turn,
 };
+use input::{Refusal, Settings};
 
-/// A witness that the source was built.
-#[derive(Clone, Copy, Debug)]
-pub struct Oracle(());
+/// The source was built.
+pub struct Present;
 
-impl Oracle {
-    pub fn load() -> core::result::Result<Self, SourceNotAvailable> {
-        Ok(Self(()))
+impl Source for Present {
+    fn run(&self, by: Entry, circuit: Circuit, start: Start, settings: &Settings) -> Run {
+        let mut stepper = Counted {
+            rk4: files::Rk4::new(circuit),
+            passed: 0,
+        };
+        let estimate = estimate(by, &mut stepper, start, settings);
+        let end = ended(estimate.map(|estimate| spectrum(&estimate)), Call::Run);
+        let (steps, finished) = progress(&end, stepper.passed, settings);
+        Run {
+            end,
+            steps,
+            finished,
+        }
     }
 
-    /// A run of the source.
-    pub fn estimate_spectrum_at(
-        &self,
-        circuit: Circuit,
-        time: f64,
-        state: &[f64],
-        config: &Config,
-    ) -> Run {
-        counted(circuit, config, |stepper| {
-            let config = benettin_config(config)?;
-            source::estimate_spectrum_at(stepper, time, state, &config)
-        })
-    }
-
-    /// A run of the source from time 0.
-    pub fn estimate_spectrum(&self, circuit: Circuit, state: &[f64], config: &Config) -> Run {
-        counted(circuit, config, |stepper| {
-            let config = benettin_config(config)?;
-            source::estimate_spectrum(stepper, state, &config)
-        })
-    }
-
-    /// A run of the source for the largest exponent. Of the settings it takes the step size, the
-    /// steps a window and the windows; the others must be those that it sets.
-    pub fn estimate_largest(&self, circuit: Circuit, state: &[f64], config: &Config) -> Run {
-        counted(circuit, config, |stepper| {
-            let (h, steps, windows) = (config.step_size, config.steps_per_window, config.windows);
-            source::estimate_largest(stepper, state, h, steps, windows)
-        })
-    }
-
-    /// The exponents of a run and nothing else of it, for timing: what is not the source's own
-    /// work is left out.
-    pub fn exponents(
-        &self,
-        circuit: Circuit,
-        time: f64,
-        state: &[f64],
-        config: &Config,
-    ) -> End<Vec<f64>> {
-        let mut rk4 = source::Rk4::new(circuit);
-        let estimate = benettin_config(config)
-            .and_then(|config| source::estimate_spectrum_at(&mut rk4, time, state, &config));
+    fn exponents(&self, circuit: Circuit, start: Start, settings: &Settings) -> End<Vec<f64>> {
+        let mut rk4 = files::Rk4::new(circuit);
+        let estimate = estimate(Entry::SpectrumAt, &mut rk4, start, settings);
         let exponents = estimate.map(|estimate| estimate.exponents().to_vec());
         ended(exponents, Call::Run)
     }
 
-    /// The source's builder of settings: its tests are 1 to 4.
-    pub fn build_config(&self, config: &Config) -> End<()> {
-        ended(benettin_config(config).map(|_| ()), Call::Run)
+    fn build_config(&self, settings: &Settings) -> End<()> {
+        ended(benettin_config(settings).map(|_| ()), Call::Run)
     }
 
-    pub fn step(
-        &self,
-        circuit: Circuit,
-        time: f64,
-        step_size: f64,
-        state: &mut [f64],
-        tangents: &mut [f64],
-        count: usize,
-    ) -> End<()> {
-        let mut rk4 = source::Rk4::new(circuit);
-        let answer = rk4.step(time, state, tangents, count, step_size);
-        ended(answer, Call::Step)
+    fn steps(&self, circuit: Circuit, step: Step, steps: usize) -> End<()> {
+        let mut rk4 = files::Rk4::new(circuit);
+        let (state, tangents) = (step.state, step.tangents);
+        let one = |_| rk4.step(step.time, state, tangents, step.count, step.step_size);
+        ended((0..steps).try_for_each(one), Call::Step)
     }
 
-    /// `steps` steps with one stepper, which keeps its memory between them, as a run does.
-    #[allow(clippy::too_many_arguments)]
-    pub fn steps(
-        &self,
-        circuit: Circuit,
-        time: f64,
-        step_size: f64,
-        state: &mut [f64],
-        tangents: &mut [f64],
-        count: usize,
-        steps: usize,
-    ) -> End<()> {
-        let mut rk4 = source::Rk4::new(circuit);
-        let one = |_| rk4.step(time, state, tangents, count, step_size);
-        let answer = (0..steps).try_for_each(one);
-        ended(answer, Call::Step)
-    }
-
-    /// The logarithms of the lengths. The dimension must not be 0.
-    pub fn modified_gram_schmidt(&self, tangents: &mut [f64], dimension: usize) -> End<Vec<f64>> {
-        let answer = source::probe_modified_gram_schmidt(tangents, dimension);
+    fn modified_gram_schmidt(&self, tangents: &mut [f64], dimension: usize) -> End<Vec<f64>> {
+        let answer = files::probe_modified_gram_schmidt(tangents, dimension);
         ended(answer, Call::Run)
     }
 
-    pub fn kaplan_yorke_dimension(&self, exponents: &[f64]) -> End<f64> {
-        ended(source::kaplan_yorke_dimension(exponents), Call::Run)
+    fn kaplan_yorke_dimension(&self, exponents: &[f64]) -> End<f64> {
+        ended(files::kaplan_yorke_dimension(exponents), Call::Run)
     }
 
-    pub fn kolmogorov_sinai_entropy(&self, exponents: &[f64]) -> End<f64> {
-        ended(source::kolmogorov_sinai_entropy(exponents), Call::Run)
+    fn kolmogorov_sinai_entropy(&self, exponents: &[f64]) -> End<f64> {
+        ended(files::kolmogorov_sinai_entropy(exponents), Call::Run)
     }
 
-    /// The turn of the source's generator from `state`.
-    pub fn splitmix64(&self, state: u64) -> Turn {
-        let (next, output) = source::probe_next_u64(state);
+    fn splitmix64(&self, state: u64) -> Turn {
+        let (next, output) = files::probe_next_u64(state);
         Turn {
             state: next,
             output,
-            symmetric_unit: source::probe_symmetric_unit(state),
+            symmetric_unit: files::probe_symmetric_unit(state),
         }
     }
 }
 
 /// The source's stepper, with a count of the steps that it did not refuse.
 struct Counted<'a> {
-    rk4: source::Rk4<Circuit<'a>>,
+    rk4: files::Rk4<Circuit<'a>>,
     passed: u64,
 }
 
@@ -151,39 +94,39 @@ impl TangentStepper for Counted<'_> {
     }
 }
 
-/// A run with a stepper that counts.
-fn counted(
-    circuit: Circuit,
-    config: &Config,
-    run: impl FnOnce(&mut Counted) -> Result<source::SpectrumEstimate>,
-) -> Run {
-    let mut stepper = Counted {
-        rk4: source::Rk4::new(circuit),
-        passed: 0,
-    };
-    let estimate = run(&mut stepper);
-    let end = ended(estimate.map(|estimate| spectrum(&estimate)), Call::Run);
-    let (steps, finished) = progress(&end, stepper.passed, config);
-    Run {
-        end,
-        steps,
-        finished,
+/// The source's run.
+fn estimate(
+    by: Entry,
+    stepper: &mut impl TangentStepper,
+    start: Start,
+    settings: &Settings,
+) -> Result<files::SpectrumEstimate> {
+    let (steps, windows) = (
+        settings.steps_per_window as usize,
+        settings.windows as usize,
+    );
+    if by == Entry::Largest {
+        return files::estimate_largest(stepper, start.state, settings.step_size, steps, windows);
+    }
+    let config = benettin_config(settings)?;
+    match by {
+        Entry::Spectrum => files::estimate_spectrum(stepper, start.state, &config),
+        _ => files::estimate_spectrum_at(stepper, start.time, start.state, &config),
     }
 }
 
-fn benettin_config(config: &Config) -> Result<source::BenettinConfig> {
-    let built = source::BenettinConfig::new(
-        config.top_k,
-        config.step_size,
-        config.steps_per_window,
-        config.windows,
-    )?;
+fn benettin_config(settings: &Settings) -> Result<files::BenettinConfig> {
+    let (steps, windows) = (
+        settings.steps_per_window as usize,
+        settings.windows as usize,
+    );
+    let built = files::BenettinConfig::new(settings.top_k, settings.step_size, steps, windows)?;
     Ok(built
-        .with_transient_windows(config.transient_windows)
-        .with_seed(config.seed))
+        .with_transient_windows(settings.transient_windows as usize)
+        .with_seed(settings.seed))
 }
 
-fn spectrum(estimate: &source::SpectrumEstimate) -> Spectrum {
+fn spectrum(estimate: &files::SpectrumEstimate) -> Spectrum {
     let mut rows = Vec::new();
     for window in estimate.finite_time_estimates() {
         rows.push(window.end_time());
@@ -201,15 +144,15 @@ fn spectrum(estimate: &source::SpectrumEstimate) -> Spectrum {
 
 /// The steps that passed every test and the measured windows that were finished. The stepper
 /// does not see test 18, nor a collapse after the last step of a window.
-fn progress(end: &End<Spectrum>, passed: u64, config: &Config) -> (u64, u64) {
+fn progress(end: &End<Spectrum>, passed: u64, settings: &Settings) -> (u64, u64) {
     let number = match end {
         End::Refused(refusal) => refusal.number,
         _ => 0,
     };
     let steps = passed - u64::from(number == 18);
-    let ended = steps / (config.steps_per_window as u64).max(1);
+    let ended = steps / settings.steps_per_window.max(1);
     let orthonormalised = ended.saturating_sub(u64::from(number == 14));
-    let finished = orthonormalised.saturating_sub(config.transient_windows as u64);
+    let finished = orthonormalised.saturating_sub(settings.transient_windows);
     (steps, finished)
 }
 
@@ -270,24 +213,23 @@ fn refusal(error: &LyapunovError, call: Call) -> Refusal {
 #[cfg(test)]
 mod tests {
     use super::*;
-    use crate::System;
+    use input::System;
 
-    fn linear(dimension: usize, matrix: &[f64], may_evaluate: bool) -> Circuit<'_> {
-        Circuit {
-            system: System::Linear { dimension, matrix },
-            may_evaluate,
-        }
+    fn linear(dimension: usize, matrix: &[f64]) -> System {
+        let matrix = matrix.to_vec();
+        System::Linear { dimension, matrix }
     }
 
-    fn config(step_size: f64) -> Config {
-        Config {
-            top_k: 1,
-            step_size,
-            steps_per_window: 2,
-            windows: 3,
-            transient_windows: 1,
-            seed: 1,
-        }
+    /// The run of a system from time 0.
+    fn run(system: &System, may_evaluate: bool, state: &[f64], step_size: f64) -> Run {
+        let circuit = Circuit {
+            system,
+            may_evaluate,
+        };
+        let mut settings = Settings::new(1, step_size, 2, 3);
+        settings.transient_windows = 1;
+        let start = Start { time: 0.0, state };
+        Present.run(Entry::SpectrumAt, circuit, start, &settings)
     }
 
     fn refused<T>(number: u64, place: u64) -> End<T> {
@@ -296,24 +238,32 @@ mod tests {
 
     #[test]
     fn marked_examples() {
-        let oracle = Oracle::load().unwrap();
         let mut state = [1.0];
-        let circuit = linear(1, &[1.0], true);
-        let end = oracle.step(circuit, 0.0, 6.0, &mut state, &mut [], 0);
+        let circuit = Circuit {
+            system: &linear(1, &[1.0]),
+            may_evaluate: true,
+        };
+        let step = Step {
+            time: 0.0,
+            step_size: 6.0,
+            state: &mut state,
+            tangents: &mut [],
+            count: 0,
+        };
+        let end = Present.steps(circuit, step, 1);
         assert_eq!((end, state), (End::Done(()), [115.0]));
         let mut tangents = [1.0, 0.0, 2.0, 0.0];
-        let end = oracle.modified_gram_schmidt(&mut tangents, 2);
+        let end = Present.modified_gram_schmidt(&mut tangents, 2);
         assert_eq!((end, tangents), (refused(14, 1), [1.0, 0.0, 0.0, 0.0]));
-        let dimension = oracle.kaplan_yorke_dimension(&[1.0, 0.0, -2.0]);
+        let dimension = Present.kaplan_yorke_dimension(&[1.0, 0.0, -2.0]);
         assert_eq!(dimension, End::Done(2.5));
-        let entropy = oracle.kolmogorov_sinai_entropy(&[-1.0, 0.5, 0.25]);
+        let entropy = Present.kolmogorov_sinai_entropy(&[-1.0, 0.5, 0.25]);
         assert_eq!(entropy, End::Done(0.75));
     }
 
     #[test]
     fn sums_fold_from_positive_zero() {
-        let oracle = Oracle::load().unwrap();
-        let End::Done(entropy) = oracle.kolmogorov_sinai_entropy(&[-1.0]) else {
+        let End::Done(entropy) = Present.kolmogorov_sinai_entropy(&[-1.0]) else {
             panic!("a finite rate has an entropy");
         };
         assert_eq!(entropy.to_bits(), 0);
@@ -321,23 +271,15 @@ mod tests {
 
     #[test]
     fn progress_of_a_refused_run() {
-        let oracle = Oracle::load().unwrap();
         // Time passes the largest float in the sixth step, the second of the third window.
-        let run =
-            oracle.estimate_spectrum_at(linear(1, &[0.0], true), 0.0, &[1.0], &config(3.2e307));
+        let run = run(&linear(1, &[0.0]), true, &[1.0], 3.2e307);
         assert_eq!(run.end, refused(18, 0));
         assert_eq!((run.steps, run.finished), (5, 1));
     }
 
     #[test]
     fn tests_alone() {
-        let oracle = Oracle::load().unwrap();
-        let ask = |state: &[f64]| {
-            let circuit = linear(2, &[], false);
-            oracle
-                .estimate_spectrum_at(circuit, 0.0, state, &config(1.0))
-                .end
-        };
+        let ask = |state: &[f64]| run(&linear(2, &[]), false, state, 1.0).end;
         assert_eq!(ask(&[1.0]), refused(10, 0));
         assert_eq!(ask(&[1.0, f64::NAN]), refused(11, 1));
         assert_eq!(ask(&[1.0, 1.0]), End::Stopped);

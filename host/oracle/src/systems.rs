@@ -1,6 +1,7 @@
 //! The four systems of document 01, in its order of operations, for the source's stepper.
 
-use crate::{Circuit, ContinuousSystem, LyapunovError, Result, System};
+use crate::{Circuit, ContinuousSystem, LyapunovError, Result};
+use input::System;
 
 /// The message of the error that stops the source at an evaluation it may not make.
 const STOPPED: &str = "not to be evaluated";
@@ -11,11 +12,7 @@ pub fn is_stop(error: &LyapunovError) -> bool {
 
 impl ContinuousSystem for Circuit<'_> {
     fn dimension(&self) -> usize {
-        match self.system {
-            System::Lorenz { .. } | System::Rossler { .. } => 3,
-            System::VanDerPol { .. } => 2,
-            System::Linear { dimension, .. } => dimension,
-        }
+        self.system.dimension()
     }
 
     fn vector_field(&self, _time: f64, state: &[f64], output: &mut [f64]) -> Result<()> {
@@ -23,17 +20,17 @@ impl ContinuousSystem for Circuit<'_> {
             return Err(LyapunovError::system(STOPPED));
         }
         match (self.system, state) {
-            (System::Lorenz { sigma, rho, beta }, &[x, y, z]) => {
+            (&System::Lorenz { sigma, rho, beta }, &[x, y, z]) => {
                 output[0] = sigma * (y - x);
                 output[1] = x * (rho - z) - y;
                 output[2] = x * y - beta * z;
             }
-            (System::Rossler { a, b, c }, &[x, y, z]) => {
+            (&System::Rossler { a, b, c }, &[x, y, z]) => {
                 output[0] = -y - z;
                 output[1] = x + a * y;
                 output[2] = b + z * (x - c);
             }
-            (System::VanDerPol { mu }, &[x, y]) => {
+            (&System::VanDerPol { mu }, &[x, y]) => {
                 output[0] = y;
                 output[1] = mu * (1.0 - x * x) * y - x;
             }
@@ -51,17 +48,17 @@ impl ContinuousSystem for Circuit<'_> {
         output: &mut [f64],
     ) -> Result<()> {
         match (self.system, state, direction) {
-            (System::Lorenz { sigma, rho, beta }, &[x, y, z], &[u, v, w]) => {
+            (&System::Lorenz { sigma, rho, beta }, &[x, y, z], &[u, v, w]) => {
                 output[0] = sigma * (v - u);
                 output[1] = (rho - z) * u - v - x * w;
                 output[2] = y * u + x * v - beta * w;
             }
-            (System::Rossler { a, c, .. }, &[x, _, z], &[u, v, w]) => {
+            (&System::Rossler { a, c, .. }, &[x, _, z], &[u, v, w]) => {
                 output[0] = -v - w;
                 output[1] = u + a * v;
                 output[2] = z * u + (x - c) * w;
             }
-            (System::VanDerPol { mu }, &[x, y], &[u, v]) => {
+            (&System::VanDerPol { mu }, &[x, y], &[u, v]) => {
                 output[0] = v;
                 output[1] = (-2.0 * mu * x * y - 1.0) * u + mu * (1.0 - x * x) * v;
             }

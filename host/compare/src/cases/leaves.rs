@@ -1,18 +1,19 @@
 //! Root, logarithm and draw.
 
-use super::Case;
+use super::{Called, Case};
+use crate::lent::Lent;
 use crate::line::Fields;
-use crate::values::{bits, word, Answer, Type, Value, FILLING};
-use lyapunov_sys::LINKED;
+use crate::values::{bits, word, Answer, Value, FILLING};
+use input::Refusal;
 use oracle::logarithm::document_logarithm;
-use oracle::Oracle;
+use oracle::Source;
 
 /// The root of a float.
 pub struct Root(pub f64);
 
 impl Case for Root {
     const KIND: &'static str = "root";
-    const ANSWER: &'static [(&'static str, Type)] = &[("y", Type::Float)];
+    const ANSWER: &'static [&'static str] = &["y"];
 
     fn read(fields: &mut Fields) -> Result<Self, String> {
         fields.float("x").map(Self)
@@ -22,21 +23,19 @@ impl Case for Root {
         format!("x={}", bits(&self.0))
     }
 
-    fn is_linked() -> bool {
-        LINKED.leaves
-    }
-
-    fn library(&self) -> Result<Answer, String> {
-        Ok(Self::answer(lyapunov_sys::sqrt(self.0)))
-    }
-
     fn model(&self) -> Answer {
         Self::answer(model::square_root(self.0))
     }
 
     /// The source takes the hardware's root.
-    fn source(&self, _: &Oracle) -> Option<Answer> {
+    fn source(&self, _: &dyn Source) -> Option<Answer> {
         Some(Self::answer(self.0.sqrt()))
+    }
+}
+
+impl Called for Root {
+    fn library(&self) -> Result<Answer, String> {
+        Ok(Self::answer(lyapunov_sys::sqrt(self.0)))
     }
 }
 
@@ -51,52 +50,47 @@ pub struct Log(pub f64);
 
 impl Case for Log {
     const KIND: &'static str = "log";
-    const ANSWER: &'static [(&'static str, Type)] = &[
-        ("num", Type::Count),
-        ("place", Type::Places),
-        ("y", Type::Float),
-    ];
+    const ANSWER: &'static [&'static str] = &["num", "place", "y"];
 
     fn read(fields: &mut Fields) -> Result<Self, String> {
-        fields.float("x").map(Self)
+        Root::read(fields).map(|root| Self(root.0))
     }
 
     fn written(&self) -> String {
-        format!("x={}", bits(&self.0))
-    }
-
-    fn is_linked() -> bool {
-        LINKED.leaves
-    }
-
-    fn library(&self) -> Result<Answer, String> {
-        let mut out = FILLING;
-        let number = lyapunov_sys::ln(self.0, &mut out);
-        Ok(Answer::refusal(number, 0).with("y", single(out)))
+        Root(self.0).written()
     }
 
     fn model(&self) -> Answer {
         match model::logarithm(self.0) {
-            Some(log) => Answer::refusal(0, 0).with("y", Value::Float(log)),
-            None => Answer::refusal(24, 0).with("y", Value::Nothing),
+            Some(log) => Answer::done().with("y", Value::Float(log)),
+            None => Answer::refusal(Refusal::of(24)).with("y", Value::Nothing),
         }
     }
 
     /// The oracle's form of the logarithm, where it has a value.
-    fn source(&self, _: &Oracle) -> Option<Answer> {
+    fn source(&self, _: &dyn Source) -> Option<Answer> {
         let covered = self.0.is_normal() && self.0 > 0.0;
         let log = || Value::Float(document_logarithm(self.0));
-        covered.then(|| Answer::refusal(0, 0).with("y", log()))
+        covered.then(|| Answer::done().with("y", log()))
+    }
+}
+
+impl Called for Log {
+    fn library(&self) -> Result<Answer, String> {
+        let mut out = Lent::output("out", 1);
+        let number = lyapunov_sys::ln(self.0, &mut out.slice_mut()[0]);
+        Ok(Answer::refusal(Refusal::of(number)).with("y", single(&out)?))
     }
 }
 
 /// An output of one float: nothing where it holds its filling still.
-pub fn single(out: f64) -> Value {
-    if out.to_bits() == FILLING.to_bits() {
+pub fn single(out: &Lent<f64>) -> Result<Value, String> {
+    let out = out.returned()?[0];
+    Ok(if out.to_bits() == FILLING.to_bits() {
         Value::Nothing
     } else {
         Value::Float(out)
-    }
+    })
 }
 
 /// Turns of the generator from a state.
@@ -107,37 +101,15 @@ pub struct Draw {
 
 impl Case for Draw {
     const KIND: &'static str = "draw";
-    const ANSWER: &'static [(&'static str, Type)] = &[
-        ("states", Type::Words),
-        ("outs", Type::Words),
-        ("values", Type::Floats),
-    ];
+    const ANSWER: &'static [&'static str] = &["states", "outs", "values"];
 
     fn read(fields: &mut Fields) -> Result<Self, String> {
-        Ok(Self {
-            state: fields.word("state")?,
-            turns: fields.count("n")?,
-        })
+        let (state, turns) = (fields.word("state")?, fields.count("n")?);
+        Ok(Self { state, turns })
     }
 
     fn written(&self) -> String {
         format!("state={} n={}", word(&self.state), self.turns)
-    }
-
-    fn is_linked() -> bool {
-        LINKED.leaves
-    }
-
-    fn library(&self) -> Result<Answer, String> {
-        Ok(self.answer(|state| {
-            let next = lyapunov_sys::splitmix64_next(state);
-            let output = lyapunov_sys::splitmix64_value(next);
-            (
-                next,
-                output,
-                lyapunov_sys::splitmix64_symmetric_unit(output),
-            )
-        }))
     }
 
     fn model(&self) -> Answer {
@@ -147,12 +119,26 @@ impl Case for Draw {
         })
     }
 
-    fn source(&self, oracle: &Oracle) -> Option<Answer> {
+    fn source(&self, source: &dyn Source) -> Option<Answer> {
         Some(self.answer(|state| {
-            let turn = oracle.splitmix64(state);
+            let turn = source.splitmix64(state);
             (turn.state, turn.output, turn.symmetric_unit)
         }))
     }
+}
+
+impl Called for Draw {
+    fn library(&self) -> Result<Answer, String> {
+        Ok(self.answer(turn_of_library))
+    }
+}
+
+/// The next state, its output and its draw.
+pub fn turn_of_library(state: u64) -> (u64, u64, f64) {
+    let next = lyapunov_sys::splitmix64_next(state);
+    let output = lyapunov_sys::splitmix64_value(next);
+    let draw = lyapunov_sys::splitmix64_symmetric_unit(output);
+    (next, output, draw)
 }
 
 impl Draw {

@@ -8,40 +8,34 @@ mod run;
 mod settings;
 mod step;
 
-pub use leaves::{Draw, Log, Root};
+pub use leaves::{turn_of_library, Draw, Log, Root};
 pub use orth::Orth;
 pub use program::Program;
 pub use rates::Rates;
 pub use run::{Outcome, Run};
-pub use settings::{Build, Settings};
+pub use settings::Build;
 pub use step::Step;
 
 use crate::line::Fields;
-use crate::values::{Answer, Type};
-use oracle::Oracle;
+use crate::values::Answer;
+use oracle::Source;
 
 /// A case without its answer.
 pub trait Case: Sized {
     const KIND: &'static str;
 
     /// The fields of an answer, in their order.
-    const ANSWER: &'static [(&'static str, Type)];
+    const ANSWER: &'static [&'static str];
 
     fn read(fields: &mut Fields) -> Result<Self, String>;
 
     /// What is handed in, as it stands in a line.
     fn written(&self) -> String;
 
-    /// Whether the functions that answer this kind are linked.
-    fn is_linked() -> bool;
-
-    /// What the proved library answers. An error is memory that it must not write.
-    fn library(&self) -> Result<Answer, String>;
-
     fn model(&self) -> Answer;
 
     /// What the source answers, where it has the behaviour.
-    fn source(&self, oracle: &Oracle) -> Option<Answer>;
+    fn source(&self, source: &dyn Source) -> Option<Answer>;
 
     /// A line of a list of cases.
     fn line(&self, id: &str, answer: &Answer, remark: &str) -> String {
@@ -50,7 +44,24 @@ pub trait Case: Sized {
     }
 }
 
-/// The number and the place of an optional refusal.
-fn number_and_place(refusal: Option<model::Refusal>) -> (u64, u64) {
-    refusal.map_or((0, 0), |refusal| (refusal.number, refusal.place))
+/// A case that functions of the proved library answer.
+pub trait Called: Case {
+    /// What the library answers. An error is memory that it must not write.
+    fn library(&self) -> Result<Answer, String>;
+
+    /// The first difference between the library and a reference, or between the two references.
+    fn difference(&self, model: &Answer, source: Option<&Answer>) -> Option<String> {
+        let library = match self.library() {
+            Ok(answer) => answer,
+            Err(memory) => return Some(format!("library: {memory}")),
+        };
+        if let Some(difference) = source.and_then(|source| source.difference(&library)) {
+            return Some(format!("library against source: {difference}"));
+        }
+        if let Some(difference) = model.difference(&library) {
+            return Some(format!("library against model: {difference}"));
+        }
+        let between = source.and_then(|source| source.difference(model));
+        between.map(|difference| format!("model against source: {difference}"))
+    }
 }

@@ -1,11 +1,11 @@
 //! The orthonormaliser on its own.
 
-use super::{number_and_place, Case};
+use super::{Called, Case};
+use crate::lent::Lent;
 use crate::line::Fields;
-use crate::values::{bits, list, Answer, Type, Value, FILLING};
-use lent::Lent;
-use lyapunov_sys::LINKED;
-use oracle::{End, Oracle};
+use crate::values::{bits, list, Answer, Value, FILLING};
+use input::Refusal;
+use oracle::{End, Source};
 
 #[derive(Clone, Debug)]
 pub struct Orth {
@@ -17,12 +17,7 @@ pub struct Orth {
 
 impl Case for Orth {
     const KIND: &'static str = "orth";
-    const ANSWER: &'static [(&'static str, Type)] = &[
-        ("num", Type::Count),
-        ("place", Type::Places),
-        ("dirs", Type::Floats),
-        ("numbers", Type::Floats),
-    ];
+    const ANSWER: &'static [&'static str] = &["num", "place", "dirs", "numbers"];
 
     fn read(fields: &mut Fields) -> Result<Self, String> {
         Ok(Self {
@@ -33,17 +28,44 @@ impl Case for Orth {
     }
 
     fn written(&self) -> String {
+        let (d, numbers) = (self.dimension, self.numbers);
         let directions = list(&self.directions, ",", bits);
-        format!(
-            "d={} dirs={directions} numbers={}",
-            self.dimension, self.numbers
-        )
+        format!("d={d} dirs={directions} numbers={numbers}")
     }
 
-    fn is_linked() -> bool {
-        LINKED.step
+    fn model(&self) -> Answer {
+        let mut directions = self.directions.clone();
+        let mut numbers = vec![FILLING; self.numbers];
+        let answer = model::orthonormalise(&mut directions, self.dimension, &mut numbers);
+        let refusal = answer.err().unwrap_or(Refusal::NONE);
+        answered(refusal, directions, Value::Floats(numbers))
     }
 
+    /// The source has neither 7 nor 13 here, and gives no squared lengths. On a collapse it drops
+    /// the logarithms of the finished directions; these are asked for on their own.
+    fn source(&self, source: &dyn Source) -> Option<Answer> {
+        let d = self.dimension;
+        if d == 0 || self.numbers / 2 < self.directions.len() / d {
+            return None;
+        }
+        let mut directions = self.directions.clone();
+        let (refusal, logs) = match source.modified_gram_schmidt(&mut directions, d) {
+            End::Done(logs) => (Refusal::NONE, logs),
+            End::Refused(refusal) => {
+                let finished = refusal.place as usize * d;
+                let mut before = self.directions[..finished].to_vec();
+                let End::Done(logs) = source.modified_gram_schmidt(&mut before, d) else {
+                    return Some(Answer::refusal(refusal));
+                };
+                (refusal, logs)
+            }
+            End::Stopped => return None,
+        };
+        Some(answered(refusal, directions, Value::Leading(logs)))
+    }
+}
+
+impl Called for Orth {
     fn library(&self) -> Result<Answer, String> {
         let mut directions = Lent::input("dirs", &self.directions);
         let mut numbers = Lent::<f64>::output("numbers", self.numbers);
@@ -52,46 +74,13 @@ impl Case for Orth {
             self.dimension,
             numbers.slice_mut(),
         );
-        let answer = Answer::refusal(refusal.number, refusal.place);
-        Ok(answer
-            .with("dirs", Value::Floats(directions.returned()?))
-            .with("numbers", Value::Floats(numbers.returned()?)))
+        let numbers = Value::Floats(numbers.returned()?);
+        Ok(answered(refusal, directions.returned()?, numbers))
     }
+}
 
-    fn model(&self) -> Answer {
-        let mut directions = self.directions.clone();
-        let mut numbers = vec![FILLING; self.numbers];
-        let refusal = model::orthonormalise(&mut directions, self.dimension, &mut numbers);
-        let (number, place) = number_and_place(refusal.err());
-        Answer::refusal(number, place)
-            .with("dirs", Value::Floats(directions))
-            .with("numbers", Value::Floats(numbers))
-    }
-
-    /// The source has neither 7 nor 13 here, and gives no squared lengths. On a collapse it drops
-    /// the logarithms of the finished directions; these are asked for on their own.
-    fn source(&self, oracle: &Oracle) -> Option<Answer> {
-        let d = self.dimension;
-        if d == 0 || self.numbers / 2 < self.directions.len() / d {
-            return None;
-        }
-        let mut directions = self.directions.clone();
-        let (refusal, logs) = match oracle.modified_gram_schmidt(&mut directions, d) {
-            End::Done(logs) => (Answer::refusal(0, 0), logs),
-            End::Refused(refusal) => {
-                let finished = refusal.place as usize * d;
-                let mut before = self.directions[..finished].to_vec();
-                let End::Done(logs) = oracle.modified_gram_schmidt(&mut before, d) else {
-                    return Some(Answer::refusal(refusal.number, refusal.place));
-                };
-                (Answer::refusal(refusal.number, refusal.place), logs)
-            }
-            End::Stopped => return None,
-        };
-        Some(
-            refusal
-                .with("dirs", Value::Floats(directions))
-                .with("numbers", Value::Leading(logs)),
-        )
-    }
+fn answered(refusal: Refusal, directions: Vec<f64>, numbers: Value) -> Answer {
+    Answer::refusal(refusal)
+        .with("dirs", Value::Floats(directions))
+        .with("numbers", numbers)
 }

@@ -2,8 +2,8 @@
 
 use super::Case;
 use crate::line::Fields;
-use crate::values::{Answer, Type, Value};
-use oracle::Oracle;
+use crate::values::{Answer, Value};
+use oracle::Source;
 use std::fmt::Write as _;
 use std::io::Write as _;
 use std::path::Path;
@@ -14,7 +14,7 @@ pub struct Program(pub Vec<u8>);
 
 impl Case for Program {
     const KIND: &'static str = "prog";
-    const ANSWER: &'static [(&'static str, Type)] = &[("out", Type::Text)];
+    const ANSWER: &'static [&'static str] = &["out"];
 
     fn read(fields: &mut Fields) -> Result<Self, String> {
         let text = fields.take("bytes")?;
@@ -44,26 +44,17 @@ impl Case for Program {
         text
     }
 
-    /// The program is no function of the library; `printed` runs it.
-    fn is_linked() -> bool {
-        false
-    }
-
-    fn library(&self) -> Result<Answer, String> {
-        Err("the program is not in the library".to_string())
-    }
-
     fn model(&self) -> Answer {
         answer(&model::spectrum_program(&self.0))
     }
 
-    fn source(&self, _: &Oracle) -> Option<Answer> {
+    fn source(&self, _: &dyn Source) -> Option<Answer> {
         None
     }
 }
 
 impl Program {
-    /// What the program at `path` prints.
+    /// What the program at `path` prints: it is no function of the library.
     pub fn printed(&self, path: &Path) -> Result<Answer, String> {
         let failed = |error: std::io::Error| format!("{}: {error}", path.display());
         let mut child = Command::new(path)

@@ -1,25 +1,18 @@
 //! A whole run.
 
-use super::settings::Settings;
-use super::Case;
+use super::{settings, Called, Case};
 use crate::circuit::Circuit;
+use crate::lent::Lent;
 use crate::line::Fields;
-use crate::values::{bits, list, Answer, Type, Value, FILLING};
-use lent::Lent;
-use lyapunov_sys::LINKED;
-use oracle::{End, Oracle};
+use crate::values::{bits, list, Answer, Value, FILLING};
+use input::{Refusal, Settings, MAX_DIMENSION};
+use lyapunov_sys::{Arguments, Outputs};
+use oracle::{End, Entry, Source, Start};
 
-/// Which function is asked for a run.
-#[derive(Clone, Copy, Debug)]
-pub enum Entry {
-    SpectrumAt,
-    Spectrum,
-    Largest,
-}
-
+/// The functions that start at time 0 are asked for the runs that `at_zero` and `largest` make.
 #[derive(Clone, Debug)]
 pub struct Run {
-    pub entry: Entry,
+    entry: Entry,
     pub circuit: Circuit,
     pub settings: Settings,
     pub time: f64,
@@ -30,11 +23,10 @@ pub struct Run {
     pub final_state: usize,
 }
 
-/// What the library answers beside its slices, and the slices after the call.
+/// What a run answers beside its slices, and the slices after the call.
 #[derive(Clone, Debug)]
 pub struct Outcome {
-    pub number: u64,
-    pub place: u64,
+    pub refusal: Refusal,
     pub finished: u64,
     pub steps: u64,
     pub faint: Vec<u64>,
@@ -47,24 +39,15 @@ pub struct Outcome {
 
 impl Case for Run {
     const KIND: &'static str = "run";
-    const ANSWER: &'static [(&'static str, Type)] = &[
-        ("num", Type::Count),
-        ("place", Type::Places),
-        ("finished", Type::Count),
-        ("made", Type::Count),
-        ("faint", Type::Counts),
-        ("ftime", Type::Float),
-        ("mtime", Type::Float),
-        ("rows", Type::Floats),
-        ("exps", Type::Floats),
-        ("final", Type::Floats),
+    const ANSWER: &'static [&'static str] = &[
+        "num", "place", "finished", "made", "faint", "ftime", "mtime", "rows", "exps", "final",
     ];
 
     fn read(fields: &mut Fields) -> Result<Self, String> {
         Ok(Self {
             entry: Entry::SpectrumAt,
             circuit: Circuit::read(fields)?,
-            settings: Settings::read(fields)?,
+            settings: settings::read(fields)?,
             time: fields.float("t0")?,
             state: fields.floats("x0")?,
             rows: fields.size("rowslen")?,
@@ -77,7 +60,7 @@ impl Case for Run {
         format!(
             "{} {} t0={} x0={} rowslen={} expslen={} finallen={}",
             self.circuit.written(),
-            self.settings.written(),
+            settings::written(&self.settings),
             bits(&self.time),
             list(&self.state, ",", bits),
             self.rows,
@@ -86,59 +69,51 @@ impl Case for Run {
         )
     }
 
-    fn is_linked() -> bool {
-        LINKED.run
-    }
-
-    fn library(&self) -> Result<Answer, String> {
-        self.outcome().map(Outcome::answer)
-    }
-
     fn model(&self) -> Answer {
-        let mut rows = vec![FILLING; self.rows];
-        let mut exponents = vec![FILLING; self.exponents];
-        let mut final_state = vec![FILLING; self.final_state];
+        let [mut rows, mut exponents, mut final_state] =
+            [self.rows, self.exponents, self.final_state].map(|length| vec![FILLING; length]);
         let mut outputs = model::Outputs {
             rows: &mut rows,
             exponents: &mut exponents,
             final_state: &mut final_state,
         };
-        let estimate = self.run_of_model(&mut outputs);
-        let number = estimate.refusal.map_or(0, |refusal| refusal.number);
-        Answer::default()
-            .with("num", Value::Count(number))
-            .with("place", self.settings.places(estimate.refusal))
-            .with("finished", Value::Count(estimate.finished))
-            .with("made", Value::Count(estimate.steps))
-            .with("faint", Value::Counts(estimate.faint.to_vec()))
-            .with("ftime", time(number, estimate.final_time))
-            .with("mtime", time(number, estimate.measured_time))
-            .with("rows", Value::Floats(rows))
-            .with("exps", Value::Floats(exponents))
-            .with("final", Value::Floats(final_state))
+        let (system, settings) = (&self.circuit.system, &self.settings);
+        let estimate = model::estimate(system, self.time, &self.state, settings, &mut outputs);
+        let answer = settings::refused(settings, estimate.refusal);
+        let outcome = Outcome {
+            refusal: estimate.refusal.unwrap_or(Refusal::NONE),
+            finished: estimate.finished,
+            steps: estimate.steps,
+            faint: estimate.faint.to_vec(),
+            final_time: estimate.final_time,
+            measured_time: estimate.measured_time,
+            rows,
+            exponents,
+            final_state,
+        };
+        outcome.after(answer)
     }
 
     /// Where a test that document 01 adds fails, the source is asked for the tests before it.
     /// It has no faint counts, and it drops the rows of a refused run; these are those of its
     /// run for the finished windows.
-    fn source(&self, oracle: &Oracle) -> Option<Answer> {
+    fn source(&self, source: &dyn Source) -> Option<Answer> {
         let added = self.first_added_refusal();
         if added == Some(5) {
-            let config = self.settings.for_source();
-            return match oracle.build_config(&config) {
-                End::Refused(refusal) => Some(Answer::refusal(refusal.number, refusal.place)),
+            return match source.build_config(&self.settings) {
+                End::Refused(refusal) => Some(Answer::refusal(refusal)),
                 _ => None,
             };
         }
-        let run = self.run_of_source(oracle, self.settings.windows, added.is_none());
+        let run = self.run_of_source(source, self.settings.windows, added.is_none());
         match run.end {
             End::Done(spectrum) => Some(self.answer_of_source(&spectrum, run.steps)),
             End::Refused(refusal) if added.is_none_or(|added| refusal.number < added) => {
                 let mut rows = vec![];
                 if run.finished > 0 {
-                    rows = self.rows_of_source(oracle, run.finished);
+                    rows = self.rows_of_source(source, run.finished);
                 }
-                let answer = Answer::refusal(refusal.number, refusal.place)
+                let answer = Answer::refusal(refusal)
                     .with("finished", Value::Count(run.finished))
                     .with("made", Value::Count(run.steps))
                     .with("rows", Value::Leading(rows));
@@ -149,19 +124,26 @@ impl Case for Run {
     }
 }
 
+impl Called for Run {
+    fn library(&self) -> Result<Answer, String> {
+        let outcome = self.outcome()?;
+        let answer = Answer::refusal(outcome.refusal);
+        Ok(outcome.after(answer))
+    }
+}
+
 impl Run {
     /// A run with outputs that just fit.
     pub fn fitting(circuit: Circuit, settings: Settings, time: f64, state: Vec<f64>) -> Self {
-        let (k, d) = (settings.top_k as usize, circuit.dimension());
         Self {
             entry: Entry::SpectrumAt,
-            circuit,
-            settings,
             time,
             state,
-            rows: settings.windows as usize * (1 + 2 * k),
-            exponents: k,
-            final_state: d,
+            rows: settings.rows_length(),
+            exponents: settings.top_k,
+            final_state: circuit.dimension(),
+            circuit,
+            settings,
         }
     }
 
@@ -175,45 +157,49 @@ impl Run {
     /// The run that `estimate_largest` makes: from time 0 for one exponent, with no warm-up and the
     /// default seed. Outputs that just fitted just fit again.
     pub fn largest(self) -> Self {
-        let width = |top_k: u64| top_k.saturating_mul(2).saturating_add(1);
-        let (before, windows) = (self.settings.top_k, self.settings.windows);
-        let [rows, fewer] = [before, 1].map(|top_k| windows.saturating_mul(width(top_k)) as usize);
-        let mut run = self.at_zero();
-        run.entry = Entry::Largest;
-        run.settings.top_k = 1;
-        run.settings.transient_windows = 0;
-        run.settings.seed = model::DEFAULT_SEED;
-        run.rows = run.rows.saturating_sub(rows.saturating_sub(fewer));
-        run.exponents = run
-            .exponents
-            .saturating_sub((before as usize).saturating_sub(1));
-        run
+        let before = self.settings;
+        let (h, steps) = (before.step_size, before.steps_per_window);
+        let settings = Settings::new(1, h, steps, before.windows);
+        let less = |a: usize, b: usize| a.saturating_sub(b);
+        Self {
+            entry: Entry::Largest,
+            settings,
+            rows: less(
+                self.rows,
+                less(before.rows_length(), settings.rows_length()),
+            ),
+            exponents: less(self.exponents, less(before.top_k, 1)),
+            ..self.at_zero()
+        }
     }
 
     /// The library's run.
     pub fn outcome(&self) -> Result<Outcome, String> {
-        let matrix = Lent::input("mat", &self.circuit.matrix);
+        let arguments = self.circuit.arguments();
+        let matrix = Lent::input("mat", arguments.matrix);
         let state = Lent::input("x0", &self.state);
         let mut rows = Lent::<f64>::output("rows", self.rows);
         let mut exponents = Lent::<f64>::output("exps", self.exponents);
         let mut final_state = Lent::<f64>::output("final", self.final_state);
         let mut counts = Lent::<u64>::output("counts", 19);
         let mut times = Lent::<f64>::output("times", 2);
-        let mut outputs = lyapunov_sys::Outputs {
+        let mut outputs = Outputs {
             rows: rows.slice_mut(),
             exponents: exponents.slice_mut(),
             final_state: final_state.slice_mut(),
             counts: counts.array_mut(),
             times: times.array_mut(),
         };
-        let system = self.circuit.for_library(matrix.slice());
-        let number = self.run_of_library(&system, state.slice(), &mut outputs);
-        matrix.unchanged(&self.circuit.matrix)?;
+        let lent = Arguments {
+            matrix: matrix.slice(),
+            ..arguments
+        };
+        let number = self.run_of_library(lent, state.slice(), &mut outputs);
+        matrix.unchanged(arguments.matrix)?;
         state.unchanged(&self.state)?;
         let (counts, times) = (counts.returned()?, times.returned()?);
         Ok(Outcome {
-            number,
-            place: counts[0],
+            refusal: Refusal::at(number, counts[0]),
             finished: counts[1],
             steps: counts[2],
             faint: counts[3..].to_vec(),
@@ -225,47 +211,26 @@ impl Run {
         })
     }
 
-    fn run_of_library(
-        &self,
-        system: &lyapunov_sys::System,
-        state: &[f64],
-        outputs: &mut lyapunov_sys::Outputs,
-    ) -> u64 {
-        let config = self.settings.for_library();
-        let (h, steps, windows) = (config.step_size, config.steps_per_window, config.windows);
+    fn run_of_library(&self, system: Arguments, state: &[f64], outputs: &mut Outputs) -> u64 {
+        let (time, settings) = (self.time, &self.settings);
         match self.entry {
             Entry::SpectrumAt => {
-                lyapunov_sys::estimate_spectrum_at(system, self.time, state, &config, outputs)
+                lyapunov_sys::estimate_spectrum_at(system, time, state, settings, outputs)
             }
-            Entry::Spectrum => lyapunov_sys::estimate_spectrum(system, state, &config, outputs),
-            Entry::Largest => {
-                lyapunov_sys::estimate_largest(system, state, h, steps, windows, outputs)
-            }
-        }
-    }
-
-    fn run_of_model(&self, outputs: &mut model::Outputs) -> model::Estimate {
-        let (circuit, config) = (self.circuit.for_model(), self.settings.for_model());
-        let (h, steps, windows) = (config.step_size, config.steps_per_window, config.windows);
-        let state = &self.state;
-        match self.entry {
-            Entry::SpectrumAt => model::estimate(&circuit, self.time, state, &config, outputs),
-            Entry::Spectrum => model::estimate_spectrum(&circuit, state, &config, outputs),
-            Entry::Largest => model::estimate_largest(&circuit, state, h, steps, windows, outputs),
+            Entry::Spectrum => lyapunov_sys::estimate_spectrum(system, state, settings, outputs),
+            Entry::Largest => lyapunov_sys::estimate_largest(system, state, settings, outputs),
         }
     }
 
     /// The first failing test of those that the source does not have: 5, 8, 9, 13.
     fn first_added_refusal(&self) -> Option<u64> {
         let d = self.circuit.dimension();
-        let width = self.settings.top_k.saturating_mul(2).saturating_add(1);
-        let rows = self.settings.windows.saturating_mul(width);
-        let short = (self.rows as u64) < rows
-            || (self.exponents as u64) < self.settings.top_k
+        let short = self.rows < self.settings.rows_length()
+            || self.exponents < self.settings.top_k
             || self.final_state < d;
-        if !self.settings.counts_over_limit().is_empty() {
+        if !model::counts_over_limit(&self.settings).is_empty() {
             Some(5)
-        } else if d > model::MAX_DIMENSION {
+        } else if d > MAX_DIMENSION {
             Some(8)
         } else if !self.circuit.matrix_fits() {
             Some(9)
@@ -274,29 +239,30 @@ impl Run {
         }
     }
 
-    fn run_of_source(&self, oracle: &Oracle, windows: u64, may_evaluate: bool) -> oracle::Run {
-        let mut config = self.settings.for_source();
-        config.windows = windows as usize;
-        let circuit = self.circuit.for_source(may_evaluate);
-        match self.entry {
-            Entry::SpectrumAt => {
-                oracle.estimate_spectrum_at(circuit, self.time, &self.state, &config)
-            }
-            Entry::Spectrum => oracle.estimate_spectrum(circuit, &self.state, &config),
-            Entry::Largest => oracle.estimate_largest(circuit, &self.state, &config),
-        }
+    fn run_of_source(&self, source: &dyn Source, windows: u64, may_evaluate: bool) -> oracle::Run {
+        let circuit = oracle::Circuit {
+            system: &self.circuit.system,
+            may_evaluate,
+        };
+        let start = Start {
+            time: self.time,
+            state: &self.state,
+        };
+        let mut settings = self.settings;
+        settings.windows = windows;
+        source.run(self.entry, circuit, start, &settings)
     }
 
     /// The rows of the source's run for `windows` windows.
-    fn rows_of_source(&self, oracle: &Oracle, windows: u64) -> Vec<f64> {
-        match self.run_of_source(oracle, windows, true).end {
+    fn rows_of_source(&self, source: &dyn Source, windows: u64) -> Vec<f64> {
+        match self.run_of_source(source, windows, true).end {
             End::Done(spectrum) => spectrum.rows,
             end => unreachable!("{windows} windows were finished, but {end:?}"),
         }
     }
 
     fn answer_of_source(&self, spectrum: &oracle::Spectrum, steps: u64) -> Answer {
-        Answer::refusal(0, 0)
+        Answer::done()
             .with("finished", Value::Count(self.settings.windows))
             .with("made", Value::Count(steps))
             .with("ftime", Value::Float(spectrum.final_time))
@@ -308,25 +274,28 @@ impl Run {
 }
 
 impl Outcome {
-    pub fn answer(self) -> Answer {
-        Answer::refusal(self.number, self.place)
+    /// The answer that begins with its refusal as `answer` has it.
+    fn after(self, answer: Answer) -> Answer {
+        let times = [self.final_time, self.measured_time];
+        let [final_time, measured_time] = times.map(|time| self.time(time));
+        answer
             .with("finished", Value::Count(self.finished))
             .with("made", Value::Count(self.steps))
             .with("faint", Value::Counts(self.faint))
-            .with("ftime", time(self.number, self.final_time))
-            .with("mtime", time(self.number, self.measured_time))
+            .with("ftime", final_time)
+            .with("mtime", measured_time)
             .with("rows", Value::Floats(self.rows))
             .with("exps", Value::Floats(self.exponents))
             .with("final", Value::Floats(self.final_state))
     }
-}
 
-/// A time of the answer: the +0.0 of a refused run is no value.
-fn time(number: u64, time: f64) -> Value {
-    if number != 0 && time.to_bits() == 0 {
-        Value::Nothing
-    } else {
-        Value::Float(time)
+    /// A time of the answer: the +0.0 of a refused run is no value.
+    fn time(&self, time: f64) -> Value {
+        if self.refusal != Refusal::NONE && time.to_bits() == 0 {
+            Value::Nothing
+        } else {
+            Value::Float(time)
+        }
     }
 }
 

@@ -1,90 +1,41 @@
 //! Settings, and building them.
 
-use super::Case;
+use super::{Called, Case};
 use crate::line::Fields;
-use crate::values::{bits, word, Answer, Type, Value};
-use lyapunov_sys::LINKED;
-use oracle::{End, Oracle};
+use crate::values::{bits, word, Answer, Value};
+use input::{Refusal, Settings, System, MAX_COUNT};
+use oracle::{End, Source};
 
-#[derive(Clone, Copy, Debug)]
-pub struct Settings {
-    pub top_k: u64,
-    pub step_size: f64,
-    pub steps_per_window: u64,
-    pub windows: u64,
-    pub transient_windows: u64,
-    pub seed: u64,
+pub fn read(fields: &mut Fields) -> Result<Settings, String> {
+    Ok(Settings {
+        top_k: fields.size("K")?,
+        step_size: fields.float("h")?,
+        steps_per_window: fields.count("steps")?,
+        windows: fields.count("windows")?,
+        transient_windows: fields.count("warmup")?,
+        seed: fields.word("seed")?,
+    })
 }
 
-impl Settings {
-    pub fn read(fields: &mut Fields) -> Result<Self, String> {
-        Ok(Self {
-            top_k: fields.count("K")?,
-            step_size: fields.float("h")?,
-            steps_per_window: fields.count("steps")?,
-            windows: fields.count("windows")?,
-            transient_windows: fields.count("warmup")?,
-            seed: fields.word("seed")?,
-        })
-    }
+pub fn written(settings: &Settings) -> String {
+    format!(
+        "K={} h={} steps={} windows={} warmup={} seed={}",
+        settings.top_k,
+        bits(&settings.step_size),
+        settings.steps_per_window,
+        settings.windows,
+        settings.transient_windows,
+        word(&settings.seed)
+    )
+}
 
-    pub fn written(&self) -> String {
-        format!(
-            "K={} h={} steps={} windows={} warmup={} seed={}",
-            self.top_k,
-            bits(&self.step_size),
-            self.steps_per_window,
-            self.windows,
-            self.transient_windows,
-            word(&self.seed)
-        )
-    }
-
-    pub fn for_library(&self) -> lyapunov_sys::Config {
-        lyapunov_sys::Config {
-            top_k: self.top_k as usize,
-            step_size: self.step_size,
-            steps_per_window: self.steps_per_window,
-            windows: self.windows,
-            transient_windows: self.transient_windows,
-            seed: self.seed,
+/// A reference's answer to a refusal, as far as it begins: 5 may name any count that is over.
+pub fn refused(settings: &Settings, refusal: Option<Refusal>) -> Answer {
+    match refusal {
+        Some(Refusal { number: 5, .. }) => {
+            Answer::of_number(5, Value::Places(model::counts_over_limit(settings)))
         }
-    }
-
-    pub fn for_model(&self) -> model::Config {
-        model::Config {
-            top_k: self.top_k as usize,
-            step_size: self.step_size,
-            steps_per_window: self.steps_per_window,
-            windows: self.windows,
-            transient_windows: self.transient_windows,
-            seed: self.seed,
-        }
-    }
-
-    pub fn for_source(&self) -> oracle::Config {
-        oracle::Config {
-            top_k: self.top_k as usize,
-            step_size: self.step_size,
-            steps_per_window: self.steps_per_window as usize,
-            windows: self.windows as usize,
-            transient_windows: self.transient_windows as usize,
-            seed: self.seed,
-        }
-    }
-
-    /// The places that refusal 5 may have.
-    pub fn counts_over_limit(&self) -> Vec<u64> {
-        model::counts_over_limit(&self.for_model())
-    }
-
-    /// A reference's place of a refusal: 5 may name any count that is over.
-    pub fn places(&self, refusal: Option<model::Refusal>) -> Value {
-        Value::Places(match refusal {
-            Some(refusal) if refusal.number == 5 => self.counts_over_limit(),
-            Some(refusal) => vec![refusal.place],
-            None => vec![0],
-        })
+        other => Answer::refusal(other.unwrap_or(Refusal::NONE)),
     }
 }
 
@@ -94,21 +45,32 @@ pub struct Build(pub Settings);
 
 impl Case for Build {
     const KIND: &'static str = "build";
-    const ANSWER: &'static [(&'static str, Type)] =
-        &[("num", Type::Count), ("place", Type::Places)];
+    const ANSWER: &'static [&'static str] = &["num", "place"];
 
     fn read(fields: &mut Fields) -> Result<Self, String> {
-        Settings::read(fields).map(Self)
+        read(fields).map(Self)
     }
 
     fn written(&self) -> String {
-        self.0.written()
+        written(&self.0)
     }
 
-    fn is_linked() -> bool {
-        LINKED.run
+    fn model(&self) -> Answer {
+        refused(&self.0, model::build_config(&self.0).err())
     }
 
+    /// The source has no 5, which comes after its own tests.
+    fn source(&self, source: &dyn Source) -> Option<Answer> {
+        let fits = model::counts_over_limit(&self.0).is_empty();
+        match source.build_config(&self.0) {
+            End::Refused(refusal) => Some(Answer::refusal(refusal)),
+            End::Done(()) if fits => Some(Answer::done()),
+            _ => None,
+        }
+    }
+}
+
+impl Called for Build {
     /// The library's builder has no warm-up windows, as the source's has none. So a run is asked
     /// for the same tests, and the builder too where the warm-up windows are not over.
     fn library(&self) -> Result<Answer, String> {
@@ -118,51 +80,21 @@ impl Case for Build {
         if by_run.number == 5 && with_other_k.tested_by_run() != by_run {
             return Err("the place of 5 depends on K".to_string());
         }
-        if self.0.transient_windows > model::COUNT_LIMIT {
-            return Ok(Answer::refusal(by_run.number, by_run.place));
+        if self.0.transient_windows > MAX_COUNT {
+            return Ok(Answer::refusal(by_run));
         }
-        let config = &self.0;
-        let built = lyapunov_sys::build_config(
-            config.top_k as usize,
-            config.step_size,
-            config.steps_per_window,
-            config.windows,
-        );
+        let built = lyapunov_sys::build_config(&self.0);
         if built.number != by_run.number {
             return Err(format!("builder: {built:?}, run: {by_run:?}"));
         }
-        Ok(Answer::refusal(built.number, built.place))
-    }
-
-    fn model(&self) -> Answer {
-        let refusal = model::build_config(&self.0.for_model()).err();
-        Answer::default()
-            .with(
-                "num",
-                Value::Count(refusal.map_or(0, |refusal| refusal.number)),
-            )
-            .with("place", self.0.places(refusal))
-    }
-
-    /// The source has no 5, which comes after its own tests.
-    fn source(&self, oracle: &Oracle) -> Option<Answer> {
-        match oracle.build_config(&self.0.for_source()) {
-            End::Refused(refusal) => Some(Answer::refusal(refusal.number, refusal.place)),
-            End::Done(()) if self.0.counts_over_limit().is_empty() => Some(Answer::refusal(0, 0)),
-            _ => None,
-        }
+        Ok(Answer::refusal(built))
     }
 }
 
 impl Build {
     /// The refusal of a run whose start time is not finite: 6 follows 1 to 5.
-    fn tested_by_run(&self) -> lyapunov_sys::Refusal {
-        let system = lyapunov_sys::System {
-            kind: 0,
-            parameters: [0.0; 3],
-            dimension: 0,
-            matrix: &[],
-        };
+    fn tested_by_run(&self) -> Refusal {
+        let system = System::VanDerPol { mu: 0.0 };
         let mut outputs = lyapunov_sys::Outputs {
             rows: &mut [],
             exponents: &mut [],
@@ -170,10 +102,9 @@ impl Build {
             counts: &mut [lyapunov_sys::UNWRITTEN; 19],
             times: &mut [0.0; 2],
         };
-        let config = self.0.for_library();
         let number =
-            lyapunov_sys::estimate_spectrum_at(&system, f64::NAN, &[], &config, &mut outputs);
-        lyapunov_sys::Refusal {
+            lyapunov_sys::estimate_spectrum_at(&system, f64::NAN, &[], &self.0, &mut outputs);
+        Refusal {
             number: if number == 6 { 0 } else { number },
             place: outputs.counts[0],
         }

@@ -1,12 +1,13 @@
 //! The step on its own.
 
-use super::{number_and_place, Case};
+use super::{Called, Case};
 use crate::circuit::Circuit;
+use crate::lent::Lent;
 use crate::line::Fields;
-use crate::values::{bits, list, Answer, Type, Value};
-use lent::Lent;
-use lyapunov_sys::LINKED;
-use oracle::{End, Oracle};
+use crate::values::{bits, list, Answer, Value};
+use input::{Refusal, MAX_DIMENSION};
+use lyapunov_sys::Arguments;
+use oracle::{End, Source};
 
 #[derive(Clone, Debug)]
 pub struct Step {
@@ -27,12 +28,7 @@ fn turn_of(number: u64) -> Option<usize> {
 
 impl Case for Step {
     const KIND: &'static str = "step";
-    const ANSWER: &'static [(&'static str, Type)] = &[
-        ("num", Type::Count),
-        ("place", Type::Places),
-        ("state", Type::Floats),
-        ("dirs", Type::Floats),
-    ];
+    const ANSWER: &'static [&'static str] = &["num", "place", "state", "dirs"];
 
     fn read(fields: &mut Fields) -> Result<Self, String> {
         Ok(Self {
@@ -46,89 +42,70 @@ impl Case for Step {
     }
 
     fn written(&self) -> String {
-        format!(
-            "{} t={} h={} state={} dirs={} count={}",
-            self.circuit.written(),
-            bits(&self.time),
-            bits(&self.step_size),
-            list(&self.state, ",", bits),
-            list(&self.directions, ",", bits),
-            self.count
-        )
-    }
-
-    fn is_linked() -> bool {
-        LINKED.step
-    }
-
-    fn library(&self) -> Result<Answer, String> {
-        let matrix = Lent::input("mat", &self.circuit.matrix);
-        let mut state = Lent::input("state", &self.state);
-        let mut directions = Lent::input("dirs", &self.directions);
-        let refusal = lyapunov_sys::step(
-            &self.circuit.for_library(matrix.slice()),
-            self.time,
-            state.slice_mut(),
-            directions.slice_mut(),
-            self.count,
-            self.step_size,
-        );
-        matrix.unchanged(&self.circuit.matrix)?;
-        let answer = Answer::refusal(refusal.number, refusal.place);
-        Ok(with_slices(
-            answer,
-            state.returned()?,
-            directions.returned()?,
-        ))
+        let (time, step_size) = (bits(&self.time), bits(&self.step_size));
+        let [state, directions] = [&self.state, &self.directions].map(|x| list(x, ",", bits));
+        let (circuit, count) = (self.circuit.written(), self.count);
+        format!("{circuit} t={time} h={step_size} state={state} dirs={directions} count={count}")
     }
 
     fn model(&self) -> Answer {
-        let mut state = self.state.clone();
-        let mut directions = self.directions.clone();
-        let refusal = model::step(
-            &self.circuit.for_model(),
-            self.time,
-            self.step_size,
-            &mut state,
-            &mut directions,
-            self.count,
-        );
-        let (number, place) = number_and_place(refusal.err());
-        with_slices(Answer::refusal(number, place), state, directions)
+        let (mut state, mut directions) = (self.state.clone(), self.directions.clone());
+        let (system, h, count) = (&self.circuit.system, self.step_size, self.count);
+        let answer = model::step(system, self.time, h, &mut state, &mut directions, count);
+        answered(answer.err().unwrap_or(Refusal::NONE), state, directions)
     }
 
     /// Where a test that document 01 adds fails, the source is asked for the tests before it.
-    fn source(&self, oracle: &Oracle) -> Option<Answer> {
+    fn source(&self, source: &dyn Source) -> Option<Answer> {
         let added = self.first_added_refusal();
-        let mut state = self.state.clone();
-        let mut directions = self.directions.clone();
-        let end = oracle.step(
-            self.circuit.for_source(added.is_none()),
-            self.time,
-            self.step_size,
-            &mut state,
-            &mut directions,
-            self.count,
-        );
-        let answer = match end {
-            End::Done(()) => Answer::refusal(0, 0),
+        let circuit = oracle::Circuit {
+            system: &self.circuit.system,
+            may_evaluate: added.is_none(),
+        };
+        let (mut state, mut directions) = (self.state.clone(), self.directions.clone());
+        let step = oracle::Step {
+            time: self.time,
+            step_size: self.step_size,
+            state: &mut state,
+            tangents: &mut directions,
+            count: self.count,
+        };
+        let refusal = match source.steps(circuit, step, 1) {
+            End::Done(()) => Refusal::NONE,
             End::Refused(refusal) => {
                 let earlier = turn_of(refusal.number) <= added.and_then(turn_of);
                 if added.is_some() && !earlier {
                     return None;
                 }
-                Answer::refusal(refusal.number, refusal.place)
+                refusal
             }
             End::Stopped => return None,
         };
-        Some(with_slices(answer, state, directions))
+        Some(answered(refusal, state, directions))
+    }
+}
+
+impl Called for Step {
+    fn library(&self) -> Result<Answer, String> {
+        let arguments = self.circuit.arguments();
+        let matrix = Lent::input("mat", arguments.matrix);
+        let mut state = Lent::input("state", &self.state);
+        let mut directions = Lent::input("dirs", &self.directions);
+        let lent = Arguments {
+            matrix: matrix.slice(),
+            ..arguments
+        };
+        let (x, t) = (state.slice_mut(), directions.slice_mut());
+        let refusal = lyapunov_sys::step(lent, self.time, x, t, self.count, self.step_size);
+        matrix.unchanged(arguments.matrix)?;
+        Ok(answered(refusal, state.returned()?, directions.returned()?))
     }
 }
 
 impl Step {
     /// The first failing test of those that the source does not have.
     fn first_added_refusal(&self) -> Option<u64> {
-        if self.circuit.dimension() > model::MAX_DIMENSION {
+        if self.circuit.dimension() > MAX_DIMENSION {
             Some(8)
         } else if !self.circuit.matrix_fits() {
             Some(9)
@@ -138,8 +115,8 @@ impl Step {
     }
 }
 
-fn with_slices(answer: Answer, state: Vec<f64>, directions: Vec<f64>) -> Answer {
-    answer
+fn answered(refusal: Refusal, state: Vec<f64>, directions: Vec<f64>) -> Answer {
+    Answer::refusal(refusal)
         .with("state", Value::Floats(state))
         .with("dirs", Value::Floats(directions))
 }

@@ -1,11 +1,12 @@
 //! Root, logarithm and generator on special and random patterns.
 
 use super::{source, Differences, Inputs};
+use crate::cases::turn_of_library;
 use crate::generate::patterns::{random_float, special_floats, special_states};
 use crate::random::Random;
 use crate::values::{same, FILLING};
 use oracle::logarithm::document_logarithm;
-use oracle::Oracle;
+use oracle::Source;
 
 /// The outputs that are published for splitmix64.c from this seed.
 const PUBLISHED_SEED: u64 = 1234567;
@@ -19,16 +20,12 @@ const PUBLISHED: [u64; 5] = [
 
 /// Compares each leaf on at least `inputs.count` patterns.
 pub fn leaves(inputs: Inputs) -> bool {
-    if !lyapunov_sys::LINKED.leaves {
-        println!("leaves: the library that is linked does not have these functions");
-        return false;
-    }
-    let oracle = source();
+    let source = source();
     let mut random = Random::seeded(inputs.seed);
     let differ = [
         roots(inputs.count, &mut random),
         logarithms(inputs.count, &mut random),
-        generator(inputs.count, &mut random, oracle.as_ref()),
+        generator(inputs.count, &mut random, source),
         published(),
     ];
     differ.iter().sum::<u64>() == 0
@@ -93,36 +90,25 @@ fn logarithms(count: u64, random: &mut Random) -> u64 {
     differences.count
 }
 
-/// The next state, its output and its draw.
-fn turn(state: u64) -> (u64, u64, f64) {
-    let next = lyapunov_sys::splitmix64_next(state);
-    let output = lyapunov_sys::splitmix64_value(next);
-    (
-        next,
-        output,
-        lyapunov_sys::splitmix64_symmetric_unit(output),
-    )
-}
-
-fn generator(count: u64, random: &mut Random, oracle: Option<&Oracle>) -> u64 {
+fn generator(count: u64, random: &mut Random, source: Option<&dyn Source>) -> u64 {
     let mut differences = Differences::default();
     let special = special_states();
     let more = count.saturating_sub(special.len() as u64);
     let states = special.len() as u64 + more;
     for state in special.into_iter().chain((0..more).map(|_| random.bits())) {
-        let (next, output, draw) = turn(state);
+        let (next, output, draw) = turn_of_library(state);
         let (model_next, model_output) = model::splitmix64(state);
         let unit = model::symmetric_unit(model_output);
         let by_model = (next, output) == (model_next, model_output) && same(draw, unit);
-        let by_source = oracle.is_none_or(|oracle| {
-            let turn = oracle.splitmix64(state);
+        let by_source = source.is_none_or(|source| {
+            let turn = source.splitmix64(state);
             (next, output) == (turn.state, turn.output) && same(draw, turn.symmetric_unit)
         });
         if !by_model || !by_source {
             differences.add(|| format!("splitmix64: state {state:016x}"));
         }
     }
-    let by_source = if oracle.is_some() { states } else { 0 };
+    let by_source = if source.is_some() { states } else { 0 };
     println!(
         "splitmix64: {states} states against the model, {by_source} of them against the source, {} \
          differ",
@@ -135,7 +121,7 @@ fn published() -> u64 {
     let mut differences = Differences::default();
     let mut state = PUBLISHED_SEED;
     for expected in PUBLISHED {
-        let (next, output, _) = turn(state);
+        let (next, output, _) = turn_of_library(state);
         state = next;
         if output != expected {
             differences.add(|| format!("splitmix64: published {expected}, library {output}"));

@@ -1,12 +1,14 @@
 //! The fixed list of answers, which is replayed where the source is not at hand.
 
 use super::many::{run_label, step_label, unlabelled};
+use super::NO_SOURCE;
 use crate::cases::{Build, Case, Draw, Log, Orth, Program, Rates, Root, Run, Step};
 use crate::generate::{self, edges, patterns, seeds};
 use crate::random::Random;
 use crate::tally::Tally;
 use crate::values::Answer;
-use oracle::Oracle;
+use input::DEFAULT_SEED;
+use oracle::Source;
 
 const HEADER: &str = "\
 # Inputs of document 01 and their answers: its marked examples and edges, every refusal of the
@@ -30,9 +32,9 @@ const LONGEST: usize = 1200;
 
 /// The list as text.
 pub fn write_list() -> Result<String, String> {
-    let oracle = Oracle::load().map_err(|error| format!("{error}: no list was written"))?;
+    let source = oracle::source().ok_or(format!("{NO_SOURCE}: no list was written"))?;
     let mut list = List {
-        oracle,
+        source,
         random: Random::seeded(1),
         text: HEADER.to_string(),
         cases: 0,
@@ -46,7 +48,7 @@ pub fn write_list() -> Result<String, String> {
 }
 
 struct List {
-    oracle: Oracle,
+    source: &'static dyn Source,
     random: Random,
     text: String,
     cases: u64,
@@ -56,7 +58,7 @@ impl List {
     /// Adds a case, once the model and the source agree on it.
     fn add<C: Case>(&mut self, case: &C, remark: &str) -> Result<(), String> {
         let model = case.model();
-        let source = case.source(&self.oracle);
+        let source = case.source(self.source);
         if let Some(difference) = source.as_ref().and_then(|source| source.difference(&model)) {
             return Err(format!(
                 "model against source: {difference}: {}",
@@ -126,7 +128,7 @@ impl List {
     fn draws(&mut self) -> Result<(), String> {
         let draw = |state, turns| Draw { state, turns };
         self.add(&draw(1234567, 5), "published outputs")?;
-        self.add(&draw(model::DEFAULT_SEED, 9), "default seed")?;
+        self.add(&draw(DEFAULT_SEED, 9), "default seed")?;
         for n in [0, 1 << 52, (1 << 53) - 1] {
             let state = seeds::seed_with_draw(&mut self.random, 0, n);
             self.add(&draw(state, 2), "marked draw")?;

@@ -1,8 +1,8 @@
 //! Random and adversarial inputs of one kind, against the model and the source.
 
 use super::{source, Differences, Inputs};
-use crate::cases::{Build, Case, Orth, Rates, Run, Step};
-use crate::circuit::{Circuit, System};
+use crate::cases::{Build, Called, Orth, Rates, Run, Step};
+use crate::circuit::{Circuit, KINDS};
 use crate::generate;
 use crate::random::Random;
 use crate::tally::{Tally, ENOUGH};
@@ -13,8 +13,8 @@ type Label<C> = fn(&C, &Answer) -> String;
 
 pub fn step(inputs: Inputs) -> bool {
     let mut expected = [2, 6, 7, 8, 9, 10, 19].map(|number| (number, "")).to_vec();
-    for system in SYSTEMS {
-        expected.extend([(0, system), (16, system), (17, system)]);
+    for kind in &KINDS {
+        expected.extend([0, 16, 17].map(|number| (number, kind.label)));
     }
     compare::<Step>("step", inputs, generate::step::step, step_label, &expected)
 }
@@ -39,7 +39,7 @@ pub fn settings(inputs: Inputs) -> bool {
 
 pub fn runs(inputs: Inputs) -> bool {
     let mut expected: Vec<(u64, &str)> = (1..=12).map(|number| (number, "")).collect();
-    expected.extend(SYSTEMS.map(|system| (0, system)));
+    expected.extend(KINDS.iter().map(|kind| (0, kind.label)));
     expected.extend([
         (0, FAINT),
         (0, INFINITE_RATE),
@@ -55,9 +55,6 @@ pub fn runs(inputs: Inputs) -> bool {
         expected.extend([IN_WARM_UP, BEFORE_ROWS, AFTER_ROWS].map(|label| (number, label)));
     }
     let agree = compare::<Run>("runs", inputs, generate::runs::run, run_label, &expected);
-    if !Run::is_linked() {
-        return false;
-    }
     let broken = generate::runs::broken_before(inputs.count);
     let pairs = generate::broken_runs::PAIRS;
     let met = broken.min(pairs);
@@ -71,7 +68,7 @@ pub fn from_zero(inputs: Inputs) -> bool {
     let mut expected: Vec<(u64, &str)> = [2, 3, 4, 5, 7, 8, 9, 10, 11, 13, 15]
         .map(|number| (number, ""))
         .to_vec();
-    expected.extend(SYSTEMS.map(|system| (0, system)));
+    expected.extend(KINDS.iter().map(|kind| (0, kind.label)));
     expected.extend([(0, FAINT), (0, INFINITE_RATE)]);
     expected.extend([14, 16, 17, 18].map(|number| (number, AFTER_ROWS)));
     expected.extend([14, 16, 17].map(|number| (number, BEFORE_ROWS)));
@@ -95,17 +92,8 @@ pub fn unlabelled<C>(_: &C, _: &Answer) -> String {
     String::new()
 }
 
-/// The systems of document 01 as labels.
-const SYSTEMS: [&str; 4] = [", Lorenz", ", Rossler", ", van der Pol", ", linear"];
-
 fn system_label(circuit: &Circuit) -> &'static str {
-    match circuit.system {
-        System::Lorenz(_) => SYSTEMS[0],
-        System::Rossler(_) => SYSTEMS[1],
-        System::VanDerPol(_) => SYSTEMS[2],
-        System::Linear(_) => SYSTEMS[3],
-        System::Unknown(_) => "",
-    }
+    circuit.kind().map_or("", |kind| kind.label)
 }
 
 /// Which system was moved, where one was.
@@ -149,28 +137,24 @@ pub fn run_label(run: &Run, answer: &Answer) -> String {
 }
 
 /// Compares `count` inputs and prints the counts; `expected` are the labels that must be met.
-fn compare<C: Case>(
+fn compare<C: Called>(
     name: &str,
     inputs: Inputs,
     generate: impl Fn(u64, &mut Random) -> C,
     label: Label<C>,
     expected: &[(u64, &str)],
 ) -> bool {
-    if !C::is_linked() {
-        println!("{name}: the library that is linked does not have these functions");
-        return false;
-    }
-    let oracle = source();
+    let reference = source();
     let count = inputs.count;
     let mut random = Random::seeded(inputs.seed);
     let (mut tally, mut differences, mut by_source) = (Tally::default(), Differences::default(), 0);
     for index in 0..count {
         let case = generate(index, &mut random);
         let model = case.model();
-        let source = oracle.as_ref().and_then(|oracle| case.source(oracle));
+        let source = reference.and_then(|source| case.source(source));
         tally.count(model.number(), &label(&case, &model));
         by_source += u64::from(source.is_some());
-        if let Some(difference) = first_difference(&case, &model, source.as_ref()) {
+        if let Some(difference) = case.difference(&model, source.as_ref()) {
             let line = || case.line(&format!("{name}{index}"), &model, "by the model");
             differences.add(|| format!("{difference}\n  {}", line()));
         }
@@ -181,20 +165,4 @@ fn compare<C: Case>(
         differences.count
     );
     tally.covers(count, expected) && differences.count == 0
-}
-
-/// The first difference between the library and a reference, or between the two references.
-fn first_difference<C: Case>(case: &C, model: &Answer, source: Option<&Answer>) -> Option<String> {
-    let library = match case.library() {
-        Ok(answer) => answer,
-        Err(memory) => return Some(format!("library: {memory}")),
-    };
-    if let Some(difference) = source.and_then(|source| source.difference(&library)) {
-        return Some(format!("library against source: {difference}"));
-    }
-    if let Some(difference) = model.difference(&library) {
-        return Some(format!("library against model: {difference}"));
-    }
-    let between = source.and_then(|source| source.difference(model));
-    between.map(|difference| format!("model against source: {difference}"))
 }

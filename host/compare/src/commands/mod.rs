@@ -1,11 +1,13 @@
 //! The commands. Each prints what it compared and answers whether nothing differed.
 
+mod fuzz;
 mod leaves;
 mod list;
 mod many;
 mod pairs;
 mod replay;
 
+pub use fuzz::{fuzz, Limits};
 pub use leaves::leaves;
 pub use list::write_list;
 pub use many::{from_zero, orthonormalise, rates, runs, settings, step};
@@ -38,12 +40,12 @@ impl Differences {
 }
 
 /// The source, or a line that says that it is not at hand.
-fn source() -> Option<oracle::Oracle> {
-    match oracle::Oracle::load() {
-        Ok(oracle) => Some(oracle),
-        Err(error) => {
-            println!("{error}: the comparison with the Rust is left out");
-            None
-        }
+fn source() -> Option<&'static dyn oracle::Source> {
+    let source = oracle::source();
+    if source.is_none() {
+        println!("{NO_SOURCE}: the comparison with the Rust is left out");
     }
+    source
 }
+
+const NO_SOURCE: &str = "source not available";

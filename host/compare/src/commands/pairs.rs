@@ -6,16 +6,13 @@ use crate::generate;
 use crate::random::Random;
 use crate::tally::Tally;
 use crate::values::{same, same_list};
+use input::Refusal;
 
 /// How the two runs of a pair compare.
 const EQUAL: &str = ", equal";
 const NOT_EQUAL: &str = " at a direction k or above, not equal";
 
 pub fn pairs(inputs: Inputs) -> bool {
-    if !Run::is_linked() {
-        println!("pairs: the library that is linked does not have these functions");
-        return false;
-    }
     let mut random = Random::seeded(inputs.seed);
     let (mut tally, mut against) = (Tally::default(), Differences::default());
     let (mut pairs, mut index) = (0, 0);
@@ -42,7 +39,7 @@ pub fn pairs(inputs: Inputs) -> bool {
 /// The run for K, with 1 <= K <= d, and the one for a smaller k, or now and then for the same,
 /// each with outputs that are long enough. Other tests may fail.
 fn pair(run: Run, random: &mut Random) -> Option<(Run, Run)> {
-    let d = run.circuit.dimension() as u64;
+    let d = run.circuit.dimension();
     if d == 0 || d > 16 {
         return None;
     }
@@ -51,16 +48,15 @@ fn pair(run: Run, random: &mut Random) -> Option<(Run, Run)> {
         1 if !random.one_in(8) => return None,
         1 => 1,
         _ if random.one_in(16) => top_k,
-        _ => random.within(1, top_k - 1),
+        _ => 1 + random.size_below(top_k - 1),
     };
-    let with = |top_k: u64| {
+    let with = |top_k: usize| {
         let mut run = run.clone();
         run.settings.top_k = top_k;
         // Where a count is over, no output is looked at.
-        let windows = run.settings.windows.min(64) as usize;
-        run.rows = windows * (1 + 2 * top_k as usize);
-        run.exponents = top_k as usize;
-        run.final_state = d as usize;
+        run.rows = run.settings.row_width() * run.settings.windows.min(64) as usize;
+        run.exponents = top_k;
+        run.final_state = d;
         run
     };
     Some((with(top_k), with(shorter)))
@@ -69,15 +65,16 @@ fn pair(run: Run, random: &mut Random) -> Option<(Run, Run)> {
 /// Counts the side of a pair, or says what is broken.
 fn judge(longer: &Run, shorter: &Run, tally: &mut Tally) -> Result<(), String> {
     let (long, short) = (longer.outcome()?, shorter.outcome()?);
-    if long.number == 13 || short.number == 13 {
+    let number = long.refusal.number;
+    if number == 13 || short.refusal.number == 13 {
         return Err("refused by 13".to_string());
     }
-    let k = shorter.settings.top_k as usize;
-    let equal = leading_equals(&long, longer.settings.top_k as usize, &short, k);
+    let k = shorter.settings.top_k;
+    let equal = leading_equals(&long, longer.settings.top_k, &short, k);
     let above = refused_at_or_above(&long, k, longer.circuit.dimension());
     match (equal, above) {
-        (true, false) => tally.count(long.number, EQUAL),
-        (false, true) => tally.count(long.number, NOT_EQUAL),
+        (true, false) => tally.count(number, EQUAL),
+        (false, true) => tally.count(number, NOT_EQUAL),
         (true, true) => return Err("equal, though refused at k or above".to_string()),
         (false, false) => return Err("not equal".to_string()),
     }
@@ -85,9 +82,10 @@ fn judge(longer: &Run, shorter: &Run, tally: &mut Tally) -> Result<(), String> {
 }
 
 fn refused_at_or_above(outcome: &Outcome, k: usize, d: usize) -> bool {
-    let direction = match outcome.number {
-        14 => outcome.place as usize,
-        17 => outcome.place as usize / d,
+    let place = outcome.refusal.place as usize;
+    let direction = match outcome.refusal.number {
+        14 => place,
+        17 => place / d,
         _ => return false,
     };
     direction >= k
@@ -95,14 +93,14 @@ fn refused_at_or_above(outcome: &Outcome, k: usize, d: usize) -> bool {
 
 /// Whether the run for K, struck to its leading k directions, equals the run for k.
 fn leading_equals(long: &Outcome, top_k: usize, short: &Outcome, k: usize) -> bool {
-    let refused = (long.number, long.place, long.finished, long.steps);
-    if refused != (short.number, short.place, short.finished, short.steps) {
+    let refused = (long.refusal, long.finished, long.steps);
+    if refused != (short.refusal, short.finished, short.steps) {
         return false;
     }
     if long.faint[..k] != short.faint[..k] || !rows_equal(long, top_k, short, k) {
         return false;
     }
-    long.number != 0
+    long.refusal != Refusal::NONE
         || (same_list(&long.exponents[..k], &short.exponents)
             && same_list(&long.final_state, &short.final_state)
             && same(long.final_time, short.final_time)
@@ -127,8 +125,7 @@ mod tests {
 
     fn outcome(number: u64, place: u64, rows: &[f64]) -> Outcome {
         Outcome {
-            number,
-            place,
+            refusal: Refusal { number, place },
             finished: 1,
             steps: 3,
             faint: vec![0; 16],

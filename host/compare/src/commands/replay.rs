@@ -1,8 +1,9 @@
 //! Replays a list of cases.
 
 use super::{Differences, PRINTED};
-use crate::cases::{Build, Case, Draw, Log, Orth, Program, Rates, Root, Run, Step};
+use crate::cases::{Build, Called, Case, Draw, Log, Orth, Program, Rates, Root, Run, Step};
 use crate::line::Line;
+use crate::values::Answer;
 use std::collections::BTreeMap;
 use std::path::Path;
 
@@ -18,7 +19,7 @@ struct Count {
 enum Replayed {
     Same,
     Differs(String),
-    /// Its functions are not linked, or its program is not given.
+    /// Its program is not given.
     NotCovered,
 }
 
@@ -58,12 +59,7 @@ fn print_counts(counts: &BTreeMap<String, Count>) -> bool {
             println!("{kind}: {} cases, {} differ", count.compared, count.differ);
         }
         if count.not_covered > 0 {
-            let what = if kind == Program::KIND {
-                "need --program PATH"
-            } else {
-                "need functions that are not linked"
-            };
-            println!("{kind}: {} cases {what}", count.not_covered);
+            println!("{kind}: {} cases need --program PATH", count.not_covered);
         }
         compared += count.compared;
         differ += count.differ;
@@ -87,28 +83,30 @@ fn replay_line(line: Line, program: Option<&Path>) -> Result<Replayed, String> {
     }
 }
 
-fn replay_case<C: Case>(mut line: Line) -> Result<Replayed, String> {
-    let case = C::read(&mut line.input)?;
-    line.input.finish()?;
-    let expected = line.answer.answer(C::ANSWER)?;
-    if !C::is_linked() {
-        return Ok(Replayed::NotCovered);
-    }
+fn replay_case<C: Called>(line: Line) -> Result<Replayed, String> {
+    let (case, expected) = read::<C>(line)?;
     Ok(match case.library() {
-        Ok(answer) => expected
-            .difference(&answer)
-            .map_or(Replayed::Same, Replayed::Differs),
+        Ok(answer) => replayed(&expected, &answer),
         Err(memory) => Replayed::Differs(memory),
     })
 }
 
-fn replay_program(mut line: Line, program: Option<&Path>) -> Result<Replayed, String> {
-    let case = Program::read(&mut line.input)?;
+fn replay_program(line: Line, program: Option<&Path>) -> Result<Replayed, String> {
+    let (case, expected) = read::<Program>(line)?;
+    Ok(match program {
+        Some(path) => replayed(&expected, &case.printed(path)?),
+        None => Replayed::NotCovered,
+    })
+}
+
+/// A case and its answer.
+fn read<C: Case>(mut line: Line) -> Result<(C, Answer), String> {
+    let case = C::read(&mut line.input)?;
     line.input.finish()?;
-    let expected = line.answer.answer(Program::ANSWER)?;
-    let Some(path) = program else {
-        return Ok(Replayed::NotCovered);
-    };
-    let difference = expected.difference(&case.printed(path)?);
-    Ok(difference.map_or(Replayed::Same, Replayed::Differs))
+    Ok((case, line.answer.answer(C::ANSWER)?))
+}
+
+fn replayed(expected: &Answer, actual: &Answer) -> Replayed {
+    let difference = expected.difference(actual);
+    difference.map_or(Replayed::Same, Replayed::Differs)
 }

@@ -1,12 +1,12 @@
 //! Runs with one or two failing tests.
 
-use super::circuits::{diagonal, known, linear};
+use super::circuits::{self, diagonal, known, linear};
 use super::seeds::seed_with_zero;
 use super::{bad_step_size, pair, pairs, runs, settings, wrong_length};
 use crate::cases::Run;
-use crate::circuit::{Circuit, System};
+use crate::circuit::Circuit;
 use crate::random::Random;
-use model::COUNT_LIMIT;
+use input::MAX_COUNT;
 
 type Break = fn(&mut Run, &mut Random);
 
@@ -14,12 +14,21 @@ type Break = fn(&mut Run, &mut Random);
 /// so that they do not undo the others.
 const BREAKS: [(u64, Break); 22] = [
     (18, late_start),
-    (7, zero_dimension),
-    (8, large_dimension),
+    (7, |run, random| {
+        let circuit = circuits::of_dimension_zero(random);
+        replace(run, circuit, random)
+    }),
+    (8, |run, random| {
+        let circuit = circuits::of_large_dimension(random);
+        replace(run, circuit, random)
+    }),
     (14, zero_draw),
     (16, growing_state),
     (17, growing_tangents),
-    (9, unfit_matrix),
+    (9, |run, random| {
+        let circuit = circuits::of_unfit_matrix(&run.circuit, random);
+        replace(run, circuit, random)
+    }),
     (1, |run, _| run.settings.top_k = 0),
     (2, |run, random| {
         run.settings.step_size = bad_step_size(random)
@@ -86,35 +95,10 @@ fn whole_run(random: &mut Random) -> Run {
 fn replace(run: &mut Run, circuit: Circuit, random: &mut Random) {
     let d = circuit.dimension().min(20);
     let mut settings = run.settings;
-    settings.top_k = settings.top_k.clamp(1, d.max(1) as u64);
+    settings.top_k = settings.top_k.clamp(1, d.max(1));
     let state = random.list(d, Random::ordinary);
     *run = Run::fitting(circuit, settings, run.time, state);
     run.final_state = d;
-}
-
-fn zero_dimension(run: &mut Run, random: &mut Random) {
-    let system = if random.one_in(2) {
-        System::Linear(0)
-    } else {
-        System::Unknown(random.pick(&[4, 7, 1 << 32, u64::MAX]))
-    };
-    let matrix = random.size_below(2);
-    replace(run, Circuit::new(system, vec![0.0; matrix]), random);
-}
-
-fn large_dimension(run: &mut Run, random: &mut Random) {
-    let d = random.pick(&[17, 18, 1 << 32, usize::MAX]);
-    let matrix = if d <= 18 { d * d } else { 1 };
-    replace(run, linear(d, vec![0.0; matrix]), random);
-}
-
-fn unfit_matrix(run: &mut Run, random: &mut Random) {
-    let d = match run.circuit.system {
-        System::Linear(d) => d,
-        _ => 1 + random.size_below(16),
-    };
-    let length = wrong_length(random, d.min(20) * d.min(20));
-    replace(run, linear(d, vec![0.0; length]), random);
 }
 
 fn zero_draw(run: &mut Run, random: &mut Random) {
@@ -142,9 +126,9 @@ fn unfit_time(run: &mut Run, random: &mut Random) {
     run.time = random.not_finite();
     if random.one_in(3) {
         // Counts at their limits pass 5; no step is made, since 6 refuses.
-        run.settings.steps_per_window = COUNT_LIMIT;
-        run.settings.windows = COUNT_LIMIT;
-        run.settings.transient_windows = COUNT_LIMIT;
+        run.settings.steps_per_window = MAX_COUNT;
+        run.settings.windows = MAX_COUNT;
+        run.settings.transient_windows = MAX_COUNT;
     }
 }
 
@@ -165,12 +149,11 @@ fn state_not_finite(run: &mut Run, random: &mut Random) {
 
 /// More exponents than dimensions; where there are not very many, the outputs have room for them.
 fn many_exponents(run: &mut Run, random: &mut Random) {
-    let d = run.circuit.dimension().min(20) as u64;
-    run.settings.top_k = random.pick(&[d + 1, d + 2, 1 << 32, 1 << 63, u64::MAX]);
+    let d = run.circuit.dimension().min(20);
+    run.settings.top_k = random.pick(&[d + 1, d + 2, 1 << 32, 1 << 63, usize::MAX]);
     if run.settings.top_k <= 22 && run.settings.windows <= 10 {
-        let width = 1 + 2 * run.settings.top_k;
-        run.rows = (run.settings.windows * width) as usize;
-        run.exponents = run.settings.top_k as usize;
+        run.rows = run.settings.rows_length();
+        run.exponents = run.settings.top_k;
     }
 }
 
@@ -185,7 +168,7 @@ fn shortened(length: usize, random: &mut Random) -> usize {
 
 fn long_window(run: &mut Run, random: &mut Random) {
     run.settings.step_size = random.pick(&[1e308, f64::MAX]);
-    run.settings.steps_per_window = random.pick(&[2, 3, COUNT_LIMIT]);
+    run.settings.steps_per_window = random.pick(&[2, 3, MAX_COUNT]);
 }
 
 /// The time overflows after one or a few steps.

@@ -1,23 +1,17 @@
 //! Document 01's marked examples and edges.
 
 use super::circuits::{diagonal, linear};
-use super::runs::halving;
+use super::runs::HALVING;
 use super::seeds::seed_with_draw;
-use crate::cases::{Case, Orth, Run, Settings, Step};
-use crate::circuit::{Circuit, System};
+use crate::cases::{Case, Orth, Run, Step};
+use crate::circuit::Circuit;
 use crate::random::Random;
 use crate::values::Answer;
+use input::{Refusal, Settings, System};
 
 /// Settings with one step a window, one window, no warm-up and the default seed.
-pub fn settings(top_k: u64, step_size: f64) -> Settings {
-    Settings {
-        top_k,
-        step_size,
-        steps_per_window: 1,
-        windows: 1,
-        transient_windows: 0,
-        seed: model::DEFAULT_SEED,
-    }
+pub fn settings(top_k: usize, step_size: f64) -> Settings {
+    Settings::new(top_k, step_size, 1, 1)
 }
 
 /// Linear(1), matrix 1, h 6, state 1 steps to 115.
@@ -62,10 +56,14 @@ pub fn row_of_negative_zeros() -> Step {
     }
 }
 
+fn rossler(a: f64, b: f64, c: f64) -> Circuit {
+    Circuit::of(System::Rossler { a, b, c })
+}
+
 /// -y - z is (-y) - z, which is +0.0 here, and not the negative of y + z.
 pub fn rossler_at_zero() -> Step {
     Step {
-        circuit: Circuit::new(System::Rossler([1.0, 0.0, 1.0]), vec![]),
+        circuit: rossler(1.0, 0.0, 1.0),
         state: vec![-0.0, 0.0, -0.0],
         directions: vec![-0.0, 0.0, -0.0],
         count: 1,
@@ -74,7 +72,7 @@ pub fn rossler_at_zero() -> Step {
 }
 
 /// A linear run with one step a window, from a state of ones at time 0.
-fn linear_run(circuit: Circuit, top_k: u64, step_size: f64) -> Run {
+fn linear_run(circuit: Circuit, top_k: usize, step_size: f64) -> Run {
     let d = circuit.dimension();
     Run::fitting(circuit, settings(top_k, step_size), 0.0, vec![1.0; d])
 }
@@ -112,7 +110,7 @@ pub fn edges_of_settings() -> Vec<(Run, &'static str)> {
 /// 480 halvings leave the squared length 2^-960, which is not faint; 537 leave 2^-1074.
 pub fn edges_of_lengths() -> Vec<(Run, &'static str)> {
     let run = |steps: u64| {
-        let mut run = linear_run(diagonal(&[halving()]), 1, 1.0);
+        let mut run = linear_run(diagonal(&[HALVING]), 1, 1.0);
         run.settings.steps_per_window = steps;
         run
     };
@@ -128,7 +126,7 @@ pub fn edges_of_lengths() -> Vec<(Run, &'static str)> {
 /// The direction, on the first axis, is faint in the first window; the state, on the second, grows
 /// and overflows in the second window.
 fn faint_then_refused() -> Run {
-    let mut run = linear_run(diagonal(&[halving(), 1.0]), 1, 1.0);
+    let mut run = linear_run(diagonal(&[HALVING, 1.0]), 1, 1.0);
     run.settings.seed = seed_with_draw(&mut Random::seeded(1), 1, 1 << 52);
     run.settings.steps_per_window = 481;
     with_windows(run, 2)
@@ -136,17 +134,20 @@ fn faint_then_refused() -> Run {
 
 /// Runs of the three nonlinear systems from the default seed, with warm-up.
 pub fn usual_runs() -> Vec<(Run, &'static str)> {
+    let lorenz = System::Lorenz {
+        sigma: 10.0,
+        rho: 28.0,
+        beta: 8.0 / 3.0,
+    };
+    let van_der_pol = System::VanDerPol { mu: 1.0 };
     let systems = [
-        (System::Lorenz([10.0, 28.0, 8.0 / 3.0]), vec![1.0, 1.0, 1.0]),
-        (System::Rossler([0.2, 0.2, 5.7]), vec![1.0, 1.0, 0.0]),
-        (System::VanDerPol(1.0), vec![2.0, 0.0]),
+        (Circuit::of(lorenz), vec![1.0, 1.0, 1.0]),
+        (rossler(0.2, 0.2, 5.7), vec![1.0, 1.0, 0.0]),
+        (Circuit::of(van_der_pol), vec![2.0, 0.0]),
     ];
-    let run = |(system, state): (System, Vec<f64>)| {
-        let mut settings = settings(state.len() as u64, 0.01);
-        settings.steps_per_window = 10;
-        settings.windows = 3;
+    let run = |(circuit, state): (Circuit, Vec<f64>)| {
+        let mut settings = Settings::new(state.len(), 0.01, 10, 3);
         settings.transient_windows = 2;
-        let circuit = Circuit::new(system, vec![]);
         (
             Run::fitting(circuit, settings, 0.0, state),
             "usual parameters",
@@ -157,8 +158,12 @@ pub fn usual_runs() -> Vec<(Run, &'static str)> {
 
 /// A Rössler run that rests with a negative zero in its state, for one exponent.
 pub fn negative_zero_at_rest() -> Run {
-    let circuit = Circuit::new(System::Rossler([-1.0, -0.0, 1.0]), vec![]);
-    Run::fitting(circuit, settings(1, 1.0), 0.0, vec![-0.0, 0.0, 0.0])
+    Run::fitting(
+        rossler(-1.0, -0.0, 1.0),
+        settings(1, 1.0),
+        0.0,
+        vec![-0.0, 0.0, 0.0],
+    )
 }
 
 /// Runs for K = 1 and K = 2, all else equal. For a strong shear the second direction collapses,
@@ -166,7 +171,7 @@ pub fn negative_zero_at_rest() -> Run {
 pub fn pairs_of_demand_3() -> Vec<(Run, &'static str)> {
     let growth = |top_k| with_windows(linear_run(diagonal(&[1.0, 1.0]), top_k, 6.0), 2);
     let mut runs: Vec<_> = (1..=2).map(|k| (growth(k), "growth, k and K")).collect();
-    let shear = |top_k: u64, seed: u64| {
+    let shear = |top_k: usize, seed: u64| {
         let circuit = linear(2, vec![0.0, 1e20, 0.0, 0.0]);
         let mut run = with_windows(linear_run(circuit, top_k, 6.0), 2);
         run.settings.seed = seed;
@@ -174,7 +179,9 @@ pub fn pairs_of_demand_3() -> Vec<(Run, &'static str)> {
     };
     let collapses = |seed: &u64| {
         let answer = shear(2, *seed).model();
-        Answer::refusal(14, 1).difference(&answer).is_none()
+        Answer::refusal(Refusal::at(14, 1))
+            .difference(&answer)
+            .is_none()
     };
     if let Some(seed) = (0..1000).find(collapses) {
         runs.extend((1..=2).map(|k| (shear(k, seed), "shear, k and K")));

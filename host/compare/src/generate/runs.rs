@@ -4,9 +4,9 @@ use super::circuits::{diagonal, dimension, known, linear, of_any_kind};
 use super::seeds::{seed_with_draw, seed_with_zero};
 use super::{broken_runs, settings};
 use crate::cases::Run;
-use crate::circuit::{Circuit, System};
+use crate::circuit::Circuit;
 use crate::random::Random;
-use std::sync::OnceLock;
+use input::System;
 
 /// The run at `index`: families take turns, and some runs have outputs with room to spare.
 pub fn run(index: u64, random: &mut Random) -> Run {
@@ -130,7 +130,7 @@ fn decaying(random: &mut Random) -> Run {
     // A length of 2^-480 is the faint mark, and one below 2^-537 collapses.
     run.settings.steps_per_window = (random.between(440.0, 560.0) / bits).ceil() as u64;
     run.settings.windows = random.within(1, 3);
-    run.rows = run.settings.windows as usize * (1 + 2 * run.settings.top_k as usize);
+    run.rows = run.settings.rows_length();
     run
 }
 
@@ -177,7 +177,11 @@ fn growing_rossler(random: &mut Random) -> Run {
     } else {
         (random.power(1.0, 6.0), (0.0, 20.0))
     };
-    let circuit = Circuit::new(System::Rossler([growth, 0.0, random.ordinary()]), vec![]);
+    let circuit = Circuit::of(System::Rossler {
+        a: growth,
+        b: 0.0,
+        c: random.ordinary(),
+    });
     let mut run = short(random, circuit, 1.0, |_| 0.0);
     for entry in &mut run.state[..2] {
         *entry = random.power(size.0, size.1);
@@ -278,7 +282,7 @@ fn special_draw(random: &mut Random) -> Run {
     };
     let mut run = short(random, circuit, 0.1, Random::ordinary);
     let n = random.pick(&[0, 1 << 52, (1 << 52) + 1, (1 << 53) - 1]);
-    let index = random.below(run.settings.top_k * run.state.len() as u64);
+    let index = random.below((run.settings.top_k * run.state.len()) as u64);
     run.settings.seed = seed_with_draw(random, index, n);
     if random.one_in(3) {
         run.settings.step_size = 1e308;
@@ -287,28 +291,8 @@ fn special_draw(random: &mut Random) -> Run {
     run
 }
 
-/// A matrix entry for which a step of size 1 halves a power of two exactly.
-pub fn halving() -> f64 {
-    static ENTRY: OnceLock<f64> = OnceLock::new();
-    let halved = |entry: f64| {
-        let mut state = [1.0];
-        let circuit = diagonal(&[entry]);
-        model::step(&circuit.for_model(), 0.0, 1.0, &mut state, &mut [], 0).expect("a fit step");
-        state[0]
-    };
-    *ENTRY.get_or_init(|| {
-        let (mut low, mut high) = (-1.0, 0.0);
-        while halved(low) != 0.5 {
-            let middle = (low + high) / 2.0;
-            if halved(middle) <= 0.5 {
-                low = middle;
-            } else {
-                high = middle;
-            }
-        }
-        low
-    })
-}
+/// A matrix entry, found by search, for which a step of size 1 halves a power of two exactly.
+pub const HALVING: f64 = f64::from_bits(0xbfe6_422c_ee14_ced0);
 
 /// Windows after which the squared length of a direction is a power of two: 480 halvings leave
 /// 2^-960, which is not faint, and 537 leave 2^-1074, the smallest that does not collapse.
@@ -316,7 +300,7 @@ fn halving_run(random: &mut Random) -> Run {
     if !random.one_in(4) {
         return linear_run(random);
     }
-    let entries = vec![halving(); 1 + random.size_below(2)];
+    let entries = vec![HALVING; 1 + random.size_below(2)];
     let mut run = short(random, diagonal(&entries), 1.0, Random::ordinary);
     run.settings.steps_per_window = random.pick(&[479, 480, 481, 536, 537, 538]);
     run.settings.windows = random.within(1, 2);

@@ -8,7 +8,12 @@ const GAMMA: u64 = 0x9e37_79b9_7f4a_7c15;
 pub fn state_before(output: u64) -> u64 {
     let v = unshifted(output, 31).wrapping_mul(inverse(0x94d0_49bb_1331_11eb));
     let v = unshifted(v, 27).wrapping_mul(inverse(0xbf58_476d_1ce4_e5b9));
-    unshifted(v, 30).wrapping_sub(GAMMA)
+    before(unshifted(v, 30))
+}
+
+/// The state whose next is `state`.
+pub fn before(state: u64) -> u64 {
+    state.wrapping_sub(GAMMA)
 }
 
 /// The v for which v xor (v shifted right) is `value`.

@@ -2,7 +2,7 @@
 
 use super::{bad_step_size, circuits, pair, wrong_length};
 use crate::cases::Step;
-use crate::circuit::{Circuit, System};
+use crate::circuit::Circuit;
 use crate::random::Random;
 
 /// The step at `index`. Every eighth has a pair of failing tests, each pair in its turn.
@@ -63,9 +63,18 @@ type Break = fn(&mut Step, &mut Random);
 
 /// The failing tests in their order, of which those that replace the circuit come first.
 const BREAKS: [Break; 8] = [
-    zero_dimension,
-    large_dimension,
-    unfit_matrix,
+    |step, random| {
+        let circuit = circuits::of_dimension_zero(random);
+        replace(step, circuit, random)
+    },
+    |step, random| {
+        let circuit = circuits::of_large_dimension(random);
+        replace(step, circuit, random)
+    },
+    |step, random| {
+        let circuit = circuits::of_unfit_matrix(&step.circuit, random);
+        replace(step, circuit, random)
+    },
     unfit_state,
     unfit_directions,
     many_directions,
@@ -97,31 +106,6 @@ fn replace(step: &mut Step, circuit: Circuit, random: &mut Random) {
     step.circuit = circuit;
     step.state = random.list(d, Random::ordinary);
     step.directions = random.list(d * step.count, Random::ordinary);
-}
-
-fn zero_dimension(step: &mut Step, random: &mut Random) {
-    let system = if random.one_in(2) {
-        System::Linear(0)
-    } else {
-        System::Unknown(random.pick(&[4, 5, 1 << 32, u64::MAX]))
-    };
-    let matrix = random.size_below(2);
-    replace(step, Circuit::new(system, vec![0.0; matrix]), random);
-}
-
-fn large_dimension(step: &mut Step, random: &mut Random) {
-    let d = random.pick(&[17, 18, 1 << 32, usize::MAX]);
-    let matrix = if d <= 18 { d * d } else { 1 };
-    replace(step, circuits::linear(d, vec![0.0; matrix]), random);
-}
-
-fn unfit_matrix(step: &mut Step, random: &mut Random) {
-    let d = match step.circuit.system {
-        System::Linear(d) => d,
-        _ => 1 + random.size_below(16),
-    };
-    let length = wrong_length(random, d.min(20) * d.min(20));
-    replace(step, circuits::linear(d, vec![0.0; length]), random);
 }
 
 fn unfit_state(step: &mut Step, random: &mut Random) {

@@ -1,4 +1,4 @@
-//! The program as a gate runs it.
+//! Fuzzing as a gate runs it.
 
 use std::process::{Command, Output};
 
@@ -9,7 +9,8 @@ const RUNS: [&str; 3] = [
 ];
 
 fn fuzz(words: &[&str]) -> Output {
-    Command::new(env!("CARGO_BIN_EXE_fuzz"))
+    Command::new(env!("CARGO_BIN_EXE_compare"))
+        .arg("fuzz")
         .args(words)
         .output()
         .expect("the program runs")

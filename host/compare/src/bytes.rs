@@ -61,7 +61,7 @@ impl<'a> Bytes<'a> {
     pub fn count(&mut self) -> u64 {
         match self.byte() {
             0..=3 => 0,
-            4..=6 => model::COUNT_LIMIT + 1,
+            4..=6 => input::MAX_COUNT + 1,
             7..=8 => u64::MAX,
             other => 1 + u64::from(other) % 6,
         }

@@ -39,3 +39,5 @@ pub use estimator::{
     probe_next_u64, probe_symmetric_unit, BenettinConfig, SpectrumEstimate,
 };
 pub use system::{ContinuousSystem, Rk4, TangentStepper};
+
+pub type Result<T> = core::result::Result<T, LyapunovError>;
