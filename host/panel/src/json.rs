@@ -24,10 +24,13 @@ type Field = (&'static str, String);
 fn input(options: &Options) -> Vec<Field> {
     let config = &options.config;
     vec![
-        ("system", text(options.choice.name.written())),
+        ("system", text(options.choice.offer.name)),
         ("parameters", floats(&options.choice.parameters)),
         ("matrix", floats(&options.choice.matrix)),
-        ("state_dimension", options.choice.dimension.to_string()),
+        (
+            "state_dimension",
+            options.choice.system.dimension().to_string(),
+        ),
         ("initial_time", float(options.time)),
         ("initial_state", floats(&options.state)),
         ("top_k", config.top_k().to_string()),

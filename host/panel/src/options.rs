@@ -1,6 +1,6 @@
 //! The command line.
 
-use crate::choice::{Choice, Name};
+use crate::choice::{Choice, Offer, OFFERS};
 use field_lyapunov::{BenettinConfig, LyapunovError, Rk4, DEFAULT_SEED};
 use std::path::PathBuf;
 
@@ -54,7 +54,7 @@ pub struct Options {
 /// The options as they are given.
 #[derive(Default)]
 struct Given {
-    name: Option<Name>,
+    offer: Option<&'static Offer>,
     parameters: Option<Vec<f64>>,
     matrix: Option<Vec<f64>>,
     dimension: Option<usize>,
@@ -151,7 +151,7 @@ fn is_option(word: &str) -> bool {
 impl Given {
     fn set(&mut self, option: &str, value: &str) -> Result<(), String> {
         match option {
-            "--system" => self.name = Some(Name::read(value)?),
+            "--system" => self.offer = Some(Offer::read(value)?),
             "--parameters" => self.parameters = Some(floats(value)?),
             "--matrix" => self.matrix = Some(floats(value)?),
             "--dimension" => self.dimension = Some(count(value)?),
@@ -172,10 +172,10 @@ impl Given {
 
 /// What is given, with the rest filled in.
 fn fitted(given: Given) -> Result<Options, Unfit> {
-    let name = given.name.unwrap_or(Name::Lorenz);
-    let choice = Choice::of(name, given.parameters, given.dimension, given.matrix)?;
+    let offer = given.offer.unwrap_or(&OFFERS[0]);
+    let choice = Choice::of(offer, given.parameters, given.dimension, given.matrix)?;
     let config = BenettinConfig::new(
-        given.top_k.unwrap_or(choice.dimension.max(1)),
+        given.top_k.unwrap_or(choice.system.dimension().max(1)),
         given.step.unwrap_or(0.01),
         given.steps.unwrap_or(10),
         given.windows.unwrap_or(50_000),
@@ -187,7 +187,7 @@ fn fitted(given: Given) -> Result<Options, Unfit> {
     .with_transient_windows(given.warm_up.unwrap_or(1_000))
     .with_seed(given.seed.unwrap_or(DEFAULT_SEED));
     Ok(Options {
-        stepper: Rk4::new(choice.system()),
+        stepper: Rk4::new(choice.system.clone()),
         state: given.state.unwrap_or_else(|| choice.start()),
         time: given.time.unwrap_or(0.0),
         config,

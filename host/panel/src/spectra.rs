@@ -115,18 +115,13 @@ fn lorenz() -> Case {
 }
 
 fn rossler() -> Case {
+    let [a, b, c] = [0.2, 0.2, 5.7];
     Case {
         name: "Rössler, a 0.2, b 0.2, c 5.7",
-        known_from: "the literature",
-        system: System::Rossler {
-            a: 0.2,
-            b: 0.2,
-            c: 5.7,
-        },
-        state: &[1.0, 1.0, 1.0],
+        system: System::Rossler { a, b, c },
         counts: [10, 200_000, 2_000],
         known: known([0.0714, 0.0, -5.394], 0.005),
-        faint: Faint::None,
+        ..lorenz()
     }
 }
 
