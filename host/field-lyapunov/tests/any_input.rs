@@ -1,9 +1,11 @@
-//! No input makes a call panic, and what is answered has the shape that it promises.
+//! No input makes a call panic. A step and an orthonormalisation answer and leave what the model
+//! does, to the bit, and what else is answered has the shape that it promises.
 
 use field_lyapunov::{
     estimate_spectrum_at, kaplan_yorke_dimension, kolmogorov_sinai_entropy, ln,
-    modified_gram_schmidt, sqrt, BenettinConfig, Rk4, SplitMix64, System,
+    modified_gram_schmidt, sqrt, BenettinConfig, LyapunovError, Rk4, SplitMix64, System,
 };
+use input::Refusal;
 
 const FLOATS: [f64; 11] = [
     0.0,
@@ -113,9 +115,22 @@ fn runs() {
     assert!(answered > 100 && refused > 100, "{answered} {refused}");
 }
 
+/// Equal bits, or two NaNs.
+fn assert_same(actual: &[f64], expected: &[f64]) {
+    let same = |(a, b): (&f64, &f64)| a.to_bits() == b.to_bits() || (a.is_nan() && b.is_nan());
+    let all_same = actual.len() == expected.len() && actual.iter().zip(expected).all(same);
+    assert!(all_same, "{actual:?}, but the model has {expected:?}");
+}
+
+/// The number and the place of an error, as the model has them.
+fn refusal(error: LyapunovError) -> Refusal {
+    Refusal::at(error.number(), error.place() as u64)
+}
+
 #[test]
 fn steps_and_orthonormalisations() {
     let mut chooser = chooser(2);
+    let mut moved = 0;
     for _ in 0..20_000 {
         let stepper = Rk4::new(chooser.system());
         let mut state = chooser.state(stepper.dimension());
@@ -123,13 +138,29 @@ fn steps_and_orthonormalisations() {
         let length = stepper.dimension().saturating_mul(count);
         let mut tangents = chooser.state(length);
         let (time, h) = (chooser.float(), chooser.float());
-        let _ = stepper.step(time, &mut state, &mut tangents, count, h);
+        let (mut x, mut t) = (state.clone(), tangents.clone());
+        let answer = stepper.step(time, &mut state, &mut tangents, count, h);
+        let expected = model::step(stepper.system(), time, h, &mut x, &mut t, count);
+        assert_eq!(answer.map_err(refusal), expected);
+        assert_same(&state, &x);
+        assert_same(&tangents, &t);
+        moved += u64::from(answer.is_ok());
+
         let dimension = chooser.size();
-        if let Ok(logarithms) = modified_gram_schmidt(&mut tangents, dimension) {
-            assert_eq!(logarithms.len(), tangents.len() / dimension);
-            assert!(logarithms.iter().all(|x| x.is_finite()));
+        let directions = tangents.len().checked_div(dimension).unwrap_or(0);
+        let mut numbers = vec![0.0; 2 * directions];
+        let answer = modified_gram_schmidt(&mut tangents, dimension);
+        let expected = model::orthonormalise(&mut t, dimension, &mut numbers);
+        assert_same(&tangents, &t);
+        match answer {
+            Ok(logarithms) => {
+                assert_eq!(expected, Ok(()));
+                assert_same(&logarithms, &numbers[..directions]);
+            }
+            Err(error) => assert_eq!(expected, Err(refusal(error))),
         }
     }
+    assert!((100..19_900).contains(&moved), "{moved}");
 }
 
 #[test]
