@@ -1,6 +1,6 @@
 //! The source, asked.
 
-use crate::systems::is_stop;
+use crate::systems::{is_stop, Evaluated};
 use crate::{
     files, Circuit, End, Entry, LyapunovError, Result, Run, Source, Spectrum, Start, Step,
     TangentStepper, Turn,
@@ -13,7 +13,7 @@ pub struct Present;
 impl Source for Present {
     fn run(&self, by: Entry, circuit: Circuit, start: Start, settings: &Settings) -> Run {
         let mut stepper = Counted {
-            rk4: files::Rk4::new(circuit),
+            rk4: files::Rk4::new(Evaluated::from(circuit)),
             passed: 0,
         };
         let estimate = estimate(by, &mut stepper, start, settings);
@@ -27,7 +27,7 @@ impl Source for Present {
     }
 
     fn exponents(&self, circuit: Circuit, start: Start, settings: &Settings) -> End<Vec<f64>> {
-        let mut rk4 = files::Rk4::new(circuit);
+        let mut rk4 = files::Rk4::new(Evaluated::from(circuit));
         let estimate = estimate(Entry::SpectrumAt, &mut rk4, start, settings);
         let exponents = estimate.map(|estimate| estimate.exponents().to_vec());
         ended(exponents, Call::Run)
@@ -38,7 +38,7 @@ impl Source for Present {
     }
 
     fn steps(&self, circuit: Circuit, step: Step, steps: usize) -> End<()> {
-        let mut rk4 = files::Rk4::new(circuit);
+        let mut rk4 = files::Rk4::new(Evaluated::from(circuit));
         let (state, tangents) = (step.state, step.tangents);
         let one = |_| rk4.step(step.time, state, tangents, step.count, step.step_size);
         ended((0..steps).try_for_each(one), Call::Step)
@@ -68,12 +68,12 @@ impl Source for Present {
 }
 
 /// The source's stepper, with a count of the steps that it did not refuse.
-struct Counted<'a> {
-    rk4: files::Rk4<Circuit<'a>>,
+struct Counted {
+    rk4: files::Rk4<Evaluated>,
     passed: u64,
 }
 
-impl TangentStepper for Counted<'_> {
+impl TangentStepper for Counted {
     fn dimension(&self) -> usize {
         self.rk4.dimension()
     }
