@@ -2,7 +2,7 @@
 
 use crate::line::Fields;
 use crate::values::{bits, list, read_count};
-use input::System;
+use input::{System, MAX_DIMENSION};
 use lyapunov_sys::Arguments;
 
 /// A kind of system, by its number in the C interface.
@@ -106,13 +106,14 @@ impl Circuit {
         KINDS.get(kind)
     }
 
-    /// Whether test 9 passes.
-    pub fn matrix_fits(&self) -> bool {
+    /// The first failing test of those that the source does not have: 8 and 9.
+    pub fn added_refusal(&self) -> Option<u64> {
         match &self.system {
-            System::Linear { dimension, matrix } => {
-                dimension.checked_mul(*dimension) == Some(matrix.len())
+            system if system.dimension() > MAX_DIMENSION => Some(8),
+            System::Linear { dimension, matrix } if dimension * dimension != matrix.len() => {
+                Some(9)
             }
-            _ => true,
+            _ => None,
         }
     }
 

@@ -24,6 +24,7 @@ const USAGE: &str = "usage:
   compare step --count N                 steps on their own
   compare orthonormalise --count N       the orthonormaliser on its own
   compare settings --count N             settings that are built
+  compare validate --count N             the tests of runs that do not look at outputs
   compare runs --count N                 whole runs
   compare from-zero --count N            runs by estimate_spectrum and estimate_largest
   compare pairs --count N                runs for k and for K exponents (demand 3)
@@ -88,6 +89,7 @@ fn compare(name: &str, count: &str, seed: &str) -> Result<bool, String> {
         "step" => commands::step,
         "orthonormalise" => commands::orthonormalise,
         "settings" => commands::settings,
+        "validate" => commands::validate,
         "runs" => commands::runs,
         "from-zero" => commands::from_zero,
         "pairs" => commands::pairs,

@@ -21,7 +21,7 @@ fn some_calls_show_no_difference() {
     let output = fuzz(&["--calls", "20000", "--seconds", "60", "--seed", "3"]);
     let text = String::from_utf8_lossy(&output.stdout).into_owned();
     assert_eq!(output.status.code(), Some(0), "{text}");
-    for function in ["sqrt", "ln", "step", "build_config"]
+    for function in ["sqrt", "ln", "step", "build_config", "validate"]
         .into_iter()
         .chain(RUNS)
     {

@@ -131,6 +131,23 @@ pub fn build_config(settings: &Settings) -> Refusal {
     })
 }
 
+/// Tests 1 to 12 of a run: those that do not look at its outputs.
+pub fn validate<'a>(
+    system: impl Into<Arguments<'a>>,
+    time: f64,
+    state: &[f64],
+    settings: &Settings,
+) -> Refusal {
+    let system = system.into();
+    refusal(|place| {
+        call!(lyapunov_validate(
+            system system, value time, read state,
+            fields settings [top_k, step_size, steps_per_window, windows, transient_windows],
+            value place,
+        ))
+    })
+}
+
 /// A run; answers the refusal's number, 0 for none.
 pub fn estimate_spectrum_at<'a>(
     system: impl Into<Arguments<'a>>,

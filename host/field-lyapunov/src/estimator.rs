@@ -3,7 +3,7 @@
 use crate::error::answered;
 use crate::{memory, BenettinConfig, FiniteTimeEstimate, LyapunovError, Rk4, MAX_DIMENSION};
 use crate::{RefusedRun, SpectrumEstimate};
-use input::{Refusal, Settings};
+use input::{Refusal, Settings, System};
 use lyapunov_sys::Outputs;
 
 /// A run from time 0.
@@ -24,7 +24,7 @@ pub fn estimate_spectrum(
     config: &BenettinConfig,
 ) -> Result<SpectrumEstimate, RefusedRun> {
     let (system, settings) = (stepper.system(), config.settings());
-    run(settings, initial_state.len(), |outputs| {
+    run(system, 0.0, initial_state, settings, |outputs| {
         lyapunov_sys::estimate_spectrum(system, initial_state, settings, outputs)
     })
 }
@@ -47,8 +47,9 @@ pub fn estimate_largest(
     windows: usize,
 ) -> Result<SpectrumEstimate, RefusedRun> {
     let settings = Settings::new(1, step_size, steps_per_window as u64, windows as u64);
-    run(&settings, initial_state.len(), |outputs| {
-        lyapunov_sys::estimate_largest(stepper.system(), initial_state, &settings, outputs)
+    let system = stepper.system();
+    run(system, 0.0, initial_state, &settings, |outputs| {
+        lyapunov_sys::estimate_largest(system, initial_state, &settings, outputs)
     })
 }
 
@@ -76,23 +77,25 @@ pub fn estimate_spectrum_at(
     config: &BenettinConfig,
 ) -> Result<SpectrumEstimate, RefusedRun> {
     let (system, settings) = (stepper.system(), config.settings());
-    run(settings, initial_state.len(), |outputs| {
+    run(system, initial_time, initial_state, settings, |outputs| {
         lyapunov_sys::estimate_spectrum_at(system, initial_time, initial_state, settings, outputs)
     })
 }
 
-/// The run that `call` makes, with these settings and so many entries of the state.
+/// The run that `call` makes. It is made once all tests of its input have passed.
 fn run(
+    system: &System,
+    time: f64,
+    state: &[f64],
     settings: &Settings,
-    dimension: usize,
-    call: impl Fn(&mut Outputs) -> u64,
+    call: impl FnOnce(&mut Outputs) -> u64,
 ) -> Result<SpectrumEstimate, RefusedRun> {
-    tests(&call)?;
+    answered(lyapunov_sys::validate(system, time, state, settings))?;
     let Some((mut rows, windows)) = room(settings) else {
         return Err(LyapunovError::OutputTooShort(0).into());
     };
     let mut exponents = vec![0.0; settings.top_k];
-    let mut final_state = vec![0.0; dimension];
+    let mut final_state = vec![0.0; state.len()];
     let (mut counts, mut times) = ([0; 3 + MAX_DIMENSION], [0.0; 2]);
     let number = call(&mut Outputs {
         rows: &mut rows,
@@ -118,22 +121,6 @@ fn run(
             final_time: times[0],
             measured_time: times[1],
         }),
-    }
-}
-
-/// Tests 1 to 12. Without outputs a run is refused by 13, or by an earlier test.
-fn tests(call: impl Fn(&mut Outputs) -> u64) -> crate::Result<()> {
-    let mut counts = [0; 3 + MAX_DIMENSION];
-    let number = call(&mut Outputs {
-        rows: &mut [],
-        exponents: &mut [],
-        final_state: &mut [],
-        counts: &mut counts,
-        times: &mut [0.0; 2],
-    });
-    match answered(Refusal::at(number, counts[0])) {
-        Err(LyapunovError::OutputTooShort(_)) => Ok(()),
-        answer => answer,
     }
 }
 

@@ -7,6 +7,7 @@ mod rates;
 mod run;
 mod settings;
 mod step;
+mod validate;
 
 pub use leaves::{turn_of_library, Draw, Log, Root};
 pub use orth::Orth;
@@ -15,6 +16,7 @@ pub use rates::Rates;
 pub use run::{Outcome, Run};
 pub use settings::Build;
 pub use step::Step;
+pub use validate::Validate;
 
 use crate::line::Fields;
 use crate::values::Answer;

@@ -5,7 +5,7 @@ use crate::circuit::Circuit;
 use crate::lent::Lent;
 use crate::line::Fields;
 use crate::values::{bits, list, Answer, Value, FILLING};
-use input::{Refusal, Settings, MAX_DIMENSION};
+use input::{Refusal, Settings};
 use lyapunov_sys::{Arguments, Outputs};
 use oracle::{End, Entry, Source, Start};
 
@@ -94,21 +94,24 @@ impl Case for Run {
         outcome.after(answer)
     }
 
-    /// Where a test that document 01 adds fails, the source is asked for the tests before it.
-    /// It has no faint counts, and it drops the rows of a refused run; these are those of its
-    /// run for the finished windows.
+    /// The source has no 13 and no faint counts, and it drops the rows of a refused run; these are
+    /// those of its run for the finished windows.
     fn source(&self, source: &dyn Source) -> Option<Answer> {
-        let added = self.first_added_refusal();
-        if added == Some(5) {
-            return match source.build_config(&self.settings) {
-                End::Refused(refusal) => Some(Answer::refusal(refusal)),
-                _ => None,
-            };
+        let tested = self.validated_by_source(source)?;
+        if tested == Refusal::NONE && self.has_short_output() {
+            return None;
         }
-        let run = self.run_of_source(source, self.settings.windows, added.is_none());
+        let run = match tested {
+            Refusal::NONE => self.run_of_source(source, self.settings.windows, true),
+            refusal => oracle::Run {
+                end: End::Refused(refusal),
+                steps: 0,
+                finished: 0,
+            },
+        };
         match run.end {
             End::Done(spectrum) => Some(self.answer_of_source(&spectrum, run.steps)),
-            End::Refused(refusal) if added.is_none_or(|added| refusal.number < added) => {
+            End::Refused(refusal) => {
                 let mut rows = vec![];
                 if run.finished > 0 {
                     rows = self.rows_of_source(source, run.finished);
@@ -119,7 +122,7 @@ impl Case for Run {
                     .with("rows", Value::Leading(rows));
                 Some(answer)
             }
-            _ => None,
+            End::Stopped => None,
         }
     }
 }
@@ -222,20 +225,28 @@ impl Run {
         }
     }
 
-    /// The first failing test of those that the source does not have: 5, 8, 9, 13.
-    fn first_added_refusal(&self) -> Option<u64> {
-        let d = self.circuit.dimension();
-        let short = self.rows < self.settings.rows_length()
+    fn has_short_output(&self) -> bool {
+        self.rows < self.settings.rows_length()
             || self.exponents < self.settings.top_k
-            || self.final_state < d;
+            || self.final_state < self.circuit.dimension()
+    }
+
+    /// The source's first failing test of 1 to 12; nothing where one of 5, 8 and 9, which it does
+    /// not have, fails before it. It is stopped at its first evaluation.
+    pub fn validated_by_source(&self, source: &dyn Source) -> Option<Refusal> {
         if !model::counts_over_limit(&self.settings).is_empty() {
-            Some(5)
-        } else if d > MAX_DIMENSION {
-            Some(8)
-        } else if !self.circuit.matrix_fits() {
-            Some(9)
-        } else {
-            short.then_some(13)
+            return match source.build_config(&self.settings) {
+                End::Refused(refusal) => Some(refusal),
+                _ => None,
+            };
+        }
+        let refusal = match self.run_of_source(source, self.settings.windows, false).end {
+            End::Refused(refusal) if refusal.number <= 12 => refusal,
+            _ => Refusal::NONE,
+        };
+        match self.circuit.added_refusal() {
+            Some(added) if refusal == Refusal::NONE || refusal.number > added => None,
+            _ => Some(refusal),
         }
     }
 

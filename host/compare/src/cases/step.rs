@@ -57,7 +57,8 @@ impl Case for Step {
 
     /// Where a test that document 01 adds fails, the source is asked for the tests before it.
     fn source(&self, source: &dyn Source) -> Option<Answer> {
-        let added = self.first_added_refusal();
+        let many = (self.count > MAX_DIMENSION).then_some(19);
+        let added = self.circuit.added_refusal().or(many);
         let circuit = oracle::Circuit {
             system: &self.circuit.system,
             may_evaluate: added.is_none(),
@@ -99,19 +100,6 @@ impl Called for Step {
         let refusal = lyapunov_sys::step(lent, self.time, x, t, self.count, self.step_size);
         matrix.unchanged(arguments.matrix)?;
         Ok(answered(refusal, state.returned()?, directions.returned()?))
-    }
-}
-
-impl Step {
-    /// The first failing test of those that the source does not have.
-    fn first_added_refusal(&self) -> Option<u64> {
-        if self.circuit.dimension() > MAX_DIMENSION {
-            Some(8)
-        } else if !self.circuit.matrix_fits() {
-            Some(9)
-        } else {
-            (self.count > 16).then_some(19)
-        }
     }
 }
 

@@ -2,7 +2,7 @@
 //! the borders around it are compared with the model of document 01.
 
 use crate::bytes::{self, Bytes};
-use crate::cases::{Build, Called, Draw, Log, Orth, Rates, Root, Run, Step};
+use crate::cases::{Build, Called, Draw, Log, Orth, Rates, Root, Run, Step, Validate};
 use crate::circuit::Circuit;
 use crate::generate::seeds;
 use input::{Settings, MAX_COUNT};
@@ -72,7 +72,7 @@ fn calls(limits: &Limits, met: &mut Met) -> Result<(), String> {
 /// The function that the bytes call, and the number of its refusal, or what differs.
 fn one(bytes: &mut Bytes) -> (&'static str, Result<u64, String>) {
     let draw = |state| compared(&Draw { state, turns: 1 });
-    match bytes.below(20) {
+    match bytes.below(22) {
         0 => ("sqrt", compared(&Root(any(bytes)))),
         1 => ("ln", compared(&Log(any(bytes)))),
         2 => ("splitmix64_next", draw(bytes.number())),
@@ -88,7 +88,8 @@ fn one(bytes: &mut Bytes) -> (&'static str, Result<u64, String>) {
         10..=12 => ("step", compared(&step(bytes))),
         13..=15 => ("estimate_spectrum_at", compared(&run(bytes, |run| run))),
         16 | 17 => ("estimate_spectrum", compared(&run(bytes, Run::at_zero))),
-        _ => ("estimate_largest", compared(&run(bytes, Run::largest))),
+        18 | 19 => ("estimate_largest", compared(&run(bytes, Run::largest))),
+        _ => ("validate", compared(&Validate(run(bytes, |run| run)))),
     }
 }
 

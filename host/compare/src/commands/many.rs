@@ -1,7 +1,7 @@
 //! Random and adversarial inputs of one kind, against the model and the source.
 
 use super::{source, Differences, Inputs};
-use crate::cases::{Build, Called, Orth, Rates, Run, Step};
+use crate::cases::{Build, Called, Orth, Rates, Run, Step, Validate};
 use crate::circuit::{Circuit, KINDS};
 use crate::generate;
 use crate::random::Random;
@@ -35,6 +35,12 @@ pub fn settings(inputs: Inputs) -> bool {
     let expected = [0, 1, 2, 3, 4, 5].map(|number| (number, ""));
     let generate = |_, random: &mut Random| Build(generate::settings::any(random));
     compare::<Build>("settings", inputs, generate, unlabelled, &expected)
+}
+
+pub fn validate(inputs: Inputs) -> bool {
+    let expected: Vec<(u64, &str)> = (0..=12).map(|number| (number, "")).collect();
+    let generate = |index, random: &mut Random| Validate(generate::runs::run(index, random));
+    compare::<Validate>("validate", inputs, generate, unlabelled, &expected)
 }
 
 pub fn runs(inputs: Inputs) -> bool {

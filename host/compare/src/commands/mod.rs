@@ -10,7 +10,7 @@ mod replay;
 pub use fuzz::{fuzz, Limits};
 pub use leaves::leaves;
 pub use list::write_list;
-pub use many::{from_zero, orthonormalise, rates, runs, settings, step};
+pub use many::{from_zero, orthonormalise, rates, runs, settings, step, validate};
 pub use pairs::pairs;
 pub use replay::replay;
 
