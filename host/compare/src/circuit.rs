@@ -35,12 +35,12 @@ pub const KINDS: [Kind; 4] = [
     kind("linear", ", linear", 0, true),
 ];
 
-/// A system, and what is handed to the library in the arguments that it must not read.
+/// A system, and the arguments that hand it to the library. What it must not read may be anything.
+/// A kind that the C interface does not have is a system of dimension 0.
 #[derive(Clone, Debug)]
 pub struct Circuit {
     pub system: System,
-    /// A kind that the C interface does not have: a system of dimension 0.
-    unknown: Option<u64>,
+    kind: u64,
     parameters: [f64; 3],
     dimension: usize,
     matrix: Vec<f64>,
@@ -56,27 +56,18 @@ pub const UNUSED: Arguments = Arguments {
 
 impl Circuit {
     pub fn of(system: System) -> Self {
-        Self::with_unread(system, vec![])
+        Self::with(system.clone(), Arguments::over(&system, UNUSED))
     }
 
-    /// A system that is lent a matrix which it does not read.
-    pub fn with_unread(system: System, matrix: Vec<f64>) -> Self {
-        Self {
-            system,
-            unknown: None,
-            parameters: UNUSED.parameters,
-            dimension: UNUSED.dimension,
-            matrix,
-        }
-    }
-
-    /// The system that the arguments mean, with the arguments that it does not use.
+    /// The system that the arguments mean.
     pub fn of_arguments(arguments: Arguments) -> Self {
-        let system = arguments.system();
-        let is_known = Arguments::from(&system).kind == arguments.kind;
+        Self::with(arguments.system(), arguments)
+    }
+
+    fn with(system: System, arguments: Arguments) -> Self {
         Self {
             system,
-            unknown: (!is_known).then_some(arguments.kind),
+            kind: arguments.kind,
             parameters: arguments.parameters,
             dimension: arguments.dimension,
             matrix: arguments.matrix.to_vec(),
@@ -84,15 +75,11 @@ impl Circuit {
     }
 
     pub fn arguments(&self) -> Arguments<'_> {
-        let unused = Arguments {
-            kind: self.unknown.unwrap_or(0),
+        Arguments {
+            kind: self.kind,
             parameters: self.parameters,
             dimension: self.dimension,
             matrix: &self.matrix,
-        };
-        match self.unknown {
-            Some(_) => unused,
-            None => Arguments::over(&self.system, unused),
         }
     }
 
@@ -102,7 +89,7 @@ impl Circuit {
 
     /// Its kind, where it has one.
     pub fn kind(&self) -> Option<&'static Kind> {
-        let kind = usize::try_from(self.arguments().kind).ok()?;
+        let kind = usize::try_from(self.kind).ok()?;
         KINDS.get(kind)
     }
 
@@ -148,17 +135,16 @@ impl Circuit {
     }
 
     pub fn written(&self) -> String {
-        let arguments = self.arguments();
         let (name, count) = match self.kind() {
-            Some(kind) if kind.has_dimension => (
-                format!("{}:{}", kind.name, arguments.dimension),
-                kind.parameters,
-            ),
+            Some(kind) if kind.has_dimension => {
+                let name = format!("{}:{}", kind.name, self.dimension);
+                (name, kind.parameters)
+            }
             Some(kind) => (kind.name.to_string(), kind.parameters),
-            None => (format!("kind:{}", arguments.kind), 0),
+            None => (format!("kind:{}", self.kind), 0),
         };
-        let parameters = list(&arguments.parameters[..count], ",", bits);
-        let matrix = list(arguments.matrix, ",", bits);
+        let parameters = list(&self.parameters[..count], ",", bits);
+        let matrix = list(&self.matrix, ",", bits);
         format!("sys={name} par={parameters} mat={matrix}")
     }
 }
