@@ -20,7 +20,8 @@ fn main() -> ExitCode {
         race::TURNS
     );
     if source.is_none() {
-        println!("The Rust source: source not available. Its times and the ratios are left out.\n");
+        let said = oracle::NOT_AVAILABLE;
+        println!("The Rust source: {said}. Its times and the ratios are left out.\n");
     }
     let measured = table("the Rust source", || {
         let mut races = steps::races(source)?;

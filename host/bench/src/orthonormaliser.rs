@@ -1,5 +1,5 @@
-//! The orthonormaliser on its own: each call on a fresh copy of the same directions, in memory that is at hand.
-//! The source's vector of logarithms is part of its call.
+//! The orthonormaliser on its own: each call on a fresh copy of the same directions, in memory that
+//! is at hand. The source's vector of logarithms is part of its call.
 
 use crate::problem::linear;
 use crate::race::{same_bits, Race, Reference};

@@ -32,7 +32,8 @@ macro_rules! refusals {
                 }
             }
 
-            /// The index, direction or output that the refusal points at; 0 where it points at none.
+            /// The index, direction or output that the refusal points at; 0 where it points at
+            /// none.
             #[must_use]
             pub const fn place(&self) -> usize {
                 match *self {

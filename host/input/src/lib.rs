@@ -1,6 +1,7 @@
 //! A system, settings and a refusal, as every package of the workspace takes them.
 //!
-//! Nothing is computed here, so that the model and the oracle share no computation with the library.
+//! Nothing is computed here, so that the model and the oracle share no computation with the
+//! library.
 
 #![warn(missing_docs)]
 

@@ -26,6 +26,9 @@ pub fn source() -> Option<&'static dyn Source> {
     None
 }
 
+/// What a program says where there is no source.
+pub const NOT_AVAILABLE: &str = "source not available";
+
 /// What is asked of the source.
 pub trait Source: Sync {
     /// A run. `estimate_spectrum` starts at time 0. `estimate_largest` does too, and takes of the

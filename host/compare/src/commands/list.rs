@@ -1,14 +1,13 @@
 //! The fixed list of answers, which is replayed where the source is not at hand.
 
 use super::many::{run_label, step_label, unlabelled};
-use super::NO_SOURCE;
 use crate::cases::{Build, Case, Draw, Log, Orth, Program, Rates, Root, Run, Step};
 use crate::generate::{self, edges, patterns, seeds};
 use crate::random::Random;
 use crate::tally::Tally;
 use crate::values::Answer;
 use input::DEFAULT_SEED;
-use oracle::Source;
+use oracle::{Source, NOT_AVAILABLE};
 
 const HEADER: &str = "\
 # Inputs of document 01 and their answers: its marked examples and edges, every refusal of the
@@ -32,7 +31,7 @@ const LONGEST: usize = 1200;
 
 /// The list as text.
 pub fn write_list() -> Result<String, String> {
-    let source = oracle::source().ok_or(format!("{NO_SOURCE}: no list was written"))?;
+    let source = oracle::source().ok_or(format!("{NOT_AVAILABLE}: no list was written"))?;
     let mut list = List {
         source,
         random: Random::seeded(1),

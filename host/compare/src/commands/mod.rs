@@ -14,6 +14,8 @@ pub use many::{from_zero, orthonormalise, rates, runs, settings, step, validate}
 pub use pairs::pairs;
 pub use replay::replay;
 
+use oracle::{Source, NOT_AVAILABLE};
+
 /// How many inputs a comparison generates, and the seed that they come from.
 #[derive(Clone, Copy, Debug)]
 pub struct Inputs {
@@ -40,12 +42,10 @@ impl Differences {
 }
 
 /// The source, or a line that says that it is not at hand.
-fn source() -> Option<&'static dyn oracle::Source> {
+fn source() -> Option<&'static dyn Source> {
     let source = oracle::source();
     if source.is_none() {
-        println!("{NO_SOURCE}: the comparison with the Rust is left out");
+        println!("{NOT_AVAILABLE}: the comparison with the Rust is left out");
     }
     source
 }
-
-const NO_SOURCE: &str = "source not available";
