@@ -22,10 +22,9 @@ use Rattle.floats.specs.Vector.{chunks, concat}
 use Rattle.floats.proofs.Vector.{Sized, chunks-sized, chunks-length, chunks-back, map-sized}
 use Rattle.system.specs.System.{dim}
 use Rattle.system.specs.declared.System.{System}
-use Rattle.rk4.specs.Step.{Stepped, advance, advanced, not-finite, stepped, observed}
+use Rattle.rk4.specs.Step.{Stepped, advance, advanced, not-finite, observed}
 use Rattle.rk4.specs.Tests.{Passed}
 use Rattle.rk4.proofs.Lengths.{direction-length}
-use Rattle.rk4.proofs.Tests.{stepped-passed}
 use Rattle.benettin.specs.Run.{Dynamics, RunState, Norms, Totals, Status, ok, refused, refused-at, tested, step, steps, _then_}
 use Rattle.benettin.specs.Estimate.{dynamics}
 use Rattle.estimator.specs.Progress.{motion, joined}
@@ -46,8 +45,7 @@ tested-time none (some i) b c e h = let z : _≡_ {A = ℕ} 0 1 = cc in absurd (
 tested-time none none b c e h = refl
 
 -- from what the step told, of a run that holds N and T beside the slices and has made s steps
-module _ {S : System} {m x : List Float} {k : ℕ} {h : Float} (n : ℕ) (time : Float) (t : List Float) (P : Passed S m x k h) (l : length t ≡ k * dim S) (τ : finite time ≡ true)
-    (r : Outcome) (x′ t′ : List Float) (e : observed r x′ t′ ≡ stepped S m time x t k h) (s : ℕ) (N : Norms) (T : Totals) where
+module _ {S : System} {m x : List Float} {k : ℕ} {h : Float} (n : ℕ) (time : Float) (t : List Float) (P : Passed S m x k h) (l : length t ≡ k * dim S) (r : Outcome) (x′ t′ : List Float) (e : observed r x′ t′ ≡ advanced S m x t k h) (s : ℕ) (N : Norms) (T : Totals) where
   abbrev M : Dynamics
   M = dynamics S m h n
 
@@ -57,12 +55,9 @@ module _ {S : System} {m x : List Float} {k : ℕ} {h : Float} (n : ℕ) (time :
   abbrev directions-after : List (List Float)
   directions-after = map (advance S m h x .1) (chunks (dim S) k t)
 
-  advanced-is : observed r x′ t′ ≡ advanced S m x t k h
-  advanced-is = e ∙ stepped-passed S m time x t k h P l τ
-
   answered : (v : Outcome) → r ≡ v → not-finite (first-not-finite (advance S m h x .0)) (first-not-finite (concat directions-after)) ≡ reported v
   unfolding advanced
-  answered v f = sym (ap (λ (y : Stepped). y .refusal) advanced-is) ∙ ap reported f
+  answered v f = sym (ap (λ (y : Stepped). y .refusal) e) ∙ ap reported f
 
   step-refused : (ε : LyapunovError) → r ≡ Refused ε → step M here ≡ refused (refused-at (refusal ε .number) (refusal ε .place) here)
   unfolding step dynamics
@@ -77,8 +72,8 @@ module _ {S : System} {m x : List Float} {k : ℕ} {h : Float} (n : ℕ) (time :
   step-on f b =
       let d : Sized (dim S) directions-after = map-sized (dim S) (advance S m h x .1) (λ v l. direction-length S m h x v ∙ l) (chunks (dim S) k t) (chunks-sized (dim S) k t (omega arith)) in
       let w : length directions-after ≡ k = length-map (chunks (dim S) k t) (advance S m h x .1) ∙ chunks-length (dim S) k t in
-      let y : x′ ≡ advance S m h x .0 = ap (λ (y : Stepped). y .state) advanced-is in
-      let z : chunks (dim S) k t′ ≡ directions-after = ap (λ (y : Stepped). chunks (dim S) k (y .tangents)) advanced-is ∙ chunks-back (dim S) k directions-after d w in
+      let y : x′ ≡ advance S m h x .0 = ap (λ (y : Stepped). y .state) e in
+      let z : chunks (dim S) k t′ ≡ directions-after = ap (λ (y : Stepped). chunks (dim S) k (y .tangents)) e ∙ chunks-back (dim S) k directions-after d w in
       tested-time (first-not-finite (advance S m h x .0)) (first-not-finite (concat directions-after)) _ _ _ (answered Accepted f) ∙ rw (b, y, z, add-one)
 
 -- ---- the loop
@@ -106,7 +101,7 @@ module _ {S : System} {m : List Float} {k : ℕ} {h : Float} {n : ℕ} {time₀ 
   unfolding steps
   stepping-end g = record { status = λ s N T. let z : n - i ≡ 0 = omega arith in sym (rw z) ∙ I .rest s N T; few = I .few; clock = I .clock }
 
-  module _ (r : Outcome) (x′ t′ : List Float) (e : observed r x′ t′ ≡ stepped S m time x t k h) (g : i < n) where
+  module _ (r : Outcome) (x′ t′ : List Float) (e : observed r x′ t′ ≡ advanced S m x t k h) (g : i < n) where
     first : (s : ℕ) (N : Norms) (T : Totals) (o : Status) → step (dynamics S m h n) (joined (motion (dim S) k x t time (s + i)) N T) ≡ o
         → (o then steps (dynamics S m h n) (n - (i + 1))) ≡ steps (dynamics S m h n) n (joined (motion (dim S) k x₀ t₀ time₀ s) N T)
     unfolding steps
@@ -114,11 +109,11 @@ module _ {S : System} {m : List Float} {k : ℕ} {h : Float} {n : ℕ} {time₀ 
 
     pub stepping-refused : {ε : LyapunovError} → r ≡ Refused ε → Advanced S m k h n time₀ x₀ t₀ (record { outcome = Refused ε; steps = i; time = time }) x′ t′
     unfolding _then_
-    stepping-refused {ε} f = record { status = λ s N T. first s N T _ (step-refused n time t (I .passed) (I .tangents) (I .clock) r x′ t′ e (s + i) N T ε f); few = I .few; clock = I .clock }
+    stepping-refused {ε} f = record { status = λ s N T. first s N T _ (step-refused n time t (I .passed) (I .tangents) r x′ t′ e (s + i) N T ε f); few = I .few; clock = I .clock }
 
     pub stepping-late : r ≡ Accepted → finite (time ⊕ h) ≡ false → Advanced S m k h n time₀ x₀ t₀ (record { outcome = Refused InvalidTime; steps = i; time = time }) x′ t′
     unfolding _then_
-    stepping-late f b = record { status = λ s N T. first s N T _ (step-late n time t (I .passed) (I .tangents) (I .clock) r x′ t′ e (s + i) N T f b); few = I .few; clock = I .clock }
+    stepping-late f b = record { status = λ s N T. first s N T _ (step-late n time t (I .passed) (I .tangents) r x′ t′ e (s + i) N T f b); few = I .few; clock = I .clock }
 
     pub stepping-on : length x′ ≡ length x → length t′ ≡ length t → r ≡ Accepted → finite (time ⊕ h) ≡ true → Stepping S m k h n time₀ x₀ t₀ (i + 1) (time ⊕ h) x′ t′
     unfolding _then_
@@ -130,5 +125,5 @@ module _ {S : System} {m : List Float} {k : ℕ} {h : Float} {n : ℕ} {time₀ 
           clock = b;
           state-kept = ex ∙ I .state-kept;
           tangents-kept = et ∙ I .tangents-kept;
-          rest = λ s N T. let z : s + (i + 1) ≡ s + i + 1 = omega arith in rw z (first s N T _ (step-on n time t (I .passed) (I .tangents) (I .clock) r x′ t′ e (s + i) N T f b));
+          rest = λ s N T. let z : s + (i + 1) ≡ s + i + 1 = omega arith in rw z (first s N T _ (step-on n time t (I .passed) (I .tangents) r x′ t′ e (s + i) N T f b));
         }

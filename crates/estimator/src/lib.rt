@@ -81,7 +81,7 @@ fn advance_steps(
     let mut time = start;
     let mut i: u64 = 0;
     while i < n {
-        if let Outcome::Refused(e) = rk4::step(system, matrix, time, state, tangents, k, h) {
+        if let Outcome::Refused(e) = rk4::passed::step(system, matrix, state, tangents, k, h) {
             return Advance {
                 outcome: Outcome::Refused(e),
                 steps: i,

@@ -91,10 +91,6 @@ module _ (S : System) (m : List Float) (time : Float) (x t : List Float) (n : �
           (behind _ _ (time-passed time .1 (k .2))
           (step-size-passed h .1 (p .step-size))))))
 
-  -- what the private step asks for
-  pub steppable : none ≡ first-failing (step-tests S m time x t n h) → Evaluable S m × (dim S ≡ length x) × (length t ≡ n * length x)
-  steppable e = let p = step-passed .0 e in (evaluable S m (p .0 .matrix) (p .0 .dimension-within), sym (p .0 .state), rw (p .0 .state) (p .1))
-
   -- where no test fails the step is made
   pub stepped-accepted : none ≡ first-failing (step-tests S m time x t n h) → stepped S m time x t n h ≡ advanced S m x t n h
   unfolding stepped
@@ -107,3 +103,7 @@ module _ (S : System) (m : List Float) (time : Float) (x t : List Float) (n : �
 
   pub stepped-passed : Passed S m x n h → length t ≡ n * dim S → finite time ≡ true → stepped S m time x t n h ≡ advanced S m x t n h
   stepped-passed p l f = stepped-accepted (step-passed .1 (p, l, f))
+
+-- what the private functions of a step ask for
+pub steppable : {S : System} {m x : List Float} {n : ℕ} {h : Float} (t : List Float) → Passed S m x n h → length t ≡ n * dim S → Evaluable S m × (dim S ≡ length x) × (length t ≡ n * length x)
+steppable {S} {m} t p l = (evaluable S m (p .matrix) (p .dimension-within), sym (p .state), rw (p .state) l)

@@ -11,11 +11,10 @@
 //
 // A linear system's matrix is transposed once a step, into columns of 8 or 16 entries. A product then sums all rows at
 // once, a column at a time, at that literal width: the sums run side by side, and each still adds in index order.
+pub mod passed;
 pub mod validation;
 
-use error::LyapunovError;
 use error::Outcome;
-use floats::Position;
 use system::System;
 ghost use mathlib.Core.Path.{_≡_};
 ghost use Prim.Native.Nat.{ℕ, _+_, _*_, _≤_, _<_};
@@ -435,28 +434,6 @@ fn advance_values(
     }
 }
 
-// The step, and 16 or 17 by the first entry that is not finite.
-fn checked_step(
-    system: System,
-    matrix: &[f64],
-    state: &mut [f64],
-    tangents: &mut [f64],
-    count: usize,
-    h: f64,
-) -> Outcome
-    requires { ⌜ Evaluable system (now matrix) × (dim system ≡ length (now state)) × (length (now tangents) ≡ count * length (now state)) ⌝ }
-    ensures { λ r. ⌜ observed r (now (state .exit)) (now (tangents .exit)) ≡ advanced system (now (matrix .entry)) (now (state .entry)) (now (tangents .entry)) count h ⌝ }
-{
-    advance_values(system, matrix, state, tangents, count, h);
-    if let Position::At(i) = floats::first_not_finite(state) {
-        return Outcome::Refused(LyapunovError::NonFiniteState(i));
-    }
-    if let Position::At(i) = floats::first_not_finite(tangents) {
-        return Outcome::Refused(LyapunovError::NonFiniteTangent(i));
-    }
-    Outcome::Accepted
-}
-
 // One step of the state and of `tangent_count` directions, which lie one after the other in `tangents` (source: Rk4::step).
 pub fn step(
     system: System,
@@ -481,5 +458,5 @@ pub fn step(
     if let Outcome::Refused(error) = tested {
         return Outcome::Refused(error);
     }
-    checked_step(system, matrix, state, tangents, tangent_count, step_size)
+    passed::step(system, matrix, state, tangents, tangent_count, step_size)
 }

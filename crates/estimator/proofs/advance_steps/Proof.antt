@@ -57,7 +57,7 @@ loop-again c =
     let e = c .before .before in
     let b = stepped e in
     let f = iteration b in
-    stepping-on (f .before .loop .inv) (b .step .result) _ _ (b .step .ensures) (f .loop-test .taken) (b .step .kept .1 .1 .1 .0) (b .step .kept .1 .1 .1 .1 .0) (e .enum-told .given .1)
+    stepping-on (f .before .loop .inv) (b .step .result) _ _ (b .step .ensures) (f .loop-test .taken) (b .step .kept .1 .1 .0) (b .step .kept .1 .1 .1 .0) (e .enum-told .given .1)
     (sym (c .before .is-finite .ensures) ∙ c .if1 .taken)
 
 same-length-3 : tie.Need-same-length-3 Inv-loop μ-loop

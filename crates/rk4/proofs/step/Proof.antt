@@ -1,8 +1,8 @@
--- `rk4::step` meets its contract: a refused step leaves the slices as they were, and any other is the checked step.
+-- `rk4::step` meets its contract: a refused step leaves the slices as they were, and any other is the step behind them.
 use mathlib.Core.Path.{sym, ap, _∙_}
 use borrow.Author.Needs.{needs}
 use Rattle.error.specs.Refusal.{reported}
-use Rattle.rk4.proofs.Tests.{steppable, stepped-accepted, stepped-refused}
+use Rattle.rk4.proofs.Tests.{step-passed, stepped-accepted, stepped-refused}
 use Rattle.rk4.proofs.step.Statement.{statement}
 use Rattle.rk4.proofs.step.Tie as tie
 
@@ -29,12 +29,14 @@ returns c =
 enum-told : tie.Need-enum-told
 enum-told c = search needs
 
-checked-step-requires : tie.Need-checked-step-requires
-checked-step-requires c κs =
+step-requires : tie.Need-step-requires
+step-requires c κs =
     let v = c .before .before .before .before in
     let ar = v .before .before .before .before .before .before .args in
-    steppable (ar .system) (ar .matrix .now) (ar .time) (ar .state .now) (ar .tangents .now) (ar .tangent-count) (ar .step-size)
-    (sym (ap reported (c .before .before .enum-told .given .1)) ∙ v .validate-step-inputs .ensures)
+    let p =
+    step-passed (ar .system) (ar .matrix .now) (ar .time) (ar .state .now) (ar .tangents .now) (ar .tangent-count) (ar .step-size) .0
+    (sym (ap reported (c .before .before .enum-told .given .1)) ∙ v .validate-step-inputs .ensures) in
+    (p .0, p .1)
 
 same-length-3 : tie.Need-same-length-3
 same-length-3 c = search needs
@@ -47,7 +49,7 @@ returns-2 c =
     let d = c .before .before .before .before in
     let v = d .before .before .before .before .before in
     let ar = v .before .before .before .before .before .before .args in
-    d .checked-step .ensures
+    d .step .ensures
     ∙ sym
     (stepped-accepted (ar .system) (ar .matrix .now) (ar .time) (ar .state .now) (ar .tangents .now) (ar .tangent-count) (ar .step-size)
     (sym (ap reported (d .before .before .before .enum-told .given .1)) ∙ v .validate-step-inputs .ensures))
@@ -62,7 +64,7 @@ step-spec =
     same-length-2
     returns
     enum-told
-    checked-step-requires
+    step-requires
     same-length-3
     same-length-4
     returns-2)

@@ -1,11 +1,11 @@
--- `rk4::checked_step` meets its contract: the first entry that is not finite is what the definition names.
+-- `rk4::passed::step` meets its contract: the first entry that is not finite is what the definition names.
 use borrow.Author.Needs.{needs}
-use Rattle.rk4.proofs.Tests.{found, found-none, answered}
-use Rattle.rk4.proofs.checked_step.Statement.{statement}
-use Rattle.rk4.proofs.checked_step.Tie as tie
+use Rattle.rk4.proofs.Tests.{found, found-none, answered, steppable}
+use Rattle.rk4.proofs.passed.step.Statement.{statement}
+use Rattle.rk4.proofs.passed.step.Tie as tie
 
 advance-values-requires : tie.Need-advance-values-requires
-advance-values-requires c κs = search needs
+advance-values-requires c κs = let s = c .before .before .before .before .before in steppable (s .args .tangents .now) (s .pre .0) (s .pre .1)
 
 first-not-finite-requires : tie.Need-first-not-finite-requires
 first-not-finite-requires c κs = search needs
@@ -62,8 +62,8 @@ returns-3 c =
     let q = found-none (c .before .before .first-not-finite2 .ensures) (c .enum-told2 .given .1) in
     answered (rw (← o, ← q)) (s .before .before .before .before .before .before .before .before .advance-values .ensures)
 
-pub checked-step-spec : {M : Type 1} → statement M
-checked-step-spec =
+pub step-spec : {M : Type 1} → statement M
+step-spec =
     tie.close
     (tie.spec
     advance-values-requires
