@@ -1,4 +1,4 @@
-// The entry points: a run's tests, then begin, the windows and the end of progress.rt.
+// The entry points: a run's tests, then its begin, its windows and its end.
 ghost use Prim.Native.Nat.{_*_};
 ghost use mathlib.Core.Path.{_≡_};
 ghost use mathlib.Core.Option.{none};
@@ -8,6 +8,7 @@ ghost use Rattle.benettin.specs.Run as Run;
 ghost use Rattle.benettin.specs.Estimate as Estimate;
 ghost use Rattle.benettin.specs.Outputs as Outputs;
 ghost use Rattle.benettin.specs.Validation as Validation;
+use crate::course;
 use crate::progress;
 use benettin::BenettinConfig;
 use benettin::SpectrumEstimate;
@@ -37,7 +38,7 @@ fn run(
     let n = config.steps_per_window;
     let mut norms = [0.0; 32];
     let begun = progress::begin(state, tangents, &mut norms, k, h, n, time, config.seed);
-    let ready = progress::warm_up(
+    let ready = course::warm_up(
         system,
         matrix,
         state,
@@ -49,7 +50,7 @@ fn run(
         config.transient_windows,
         begun,
     );
-    let done = progress::measure(
+    let done = course::measure(
         system,
         matrix,
         state,

@@ -3,8 +3,9 @@
 // estimate.rt has the entry points. `estimate_spectrum_at` is the run that crate benettin defines: its answer and every float
 // left in rows, exponents and final state equal specs/Outputs.antt there, for every input. Its contract is `Meets`, the
 // definition of which specs/Refusals.antt there states demand 1 and specs/LeadingOutputs.antt demand 3. progress.rt is a run
-// under way: begin, window, end. This file has their parts. The state, the directions, their logarithms and squared lengths
+// under way: begin, window, end. course.rt has the loops over windows. This file has the parts of a window. The state, the directions, their logarithms and squared lengths
 // lie in arrays on the stack; nothing is allocated.
+pub mod course;
 pub mod estimate;
 pub mod progress;
 

@@ -83,36 +83,6 @@ pub fn window(
     crate::count_faint(q, &norms[k..e])
 }
 
-// The warm-up windows, if nothing is refused yet.
-pub fn warm_up(
-    system: System,
-    matrix: &[f64],
-    state: &mut [f64],
-    tangents: &mut [f64],
-    norms: &mut [f64],
-    k: usize,
-    h: f64,
-    n: u64,
-    windows: u64,
-    from: Progress,
-) -> Progress
-    requires { ⌜ Under.Fits system (now matrix) k h limit limit (held (now state) (now tangents) (now norms) from) × (n ≤ limit) × (windows ≤ limit) ⌝ }
-    ensures { λ r. ⌜ Under.WarmedUp system (now (matrix .entry)) k h n windows (held (now (state .entry)) (now (tangents .entry)) (now (norms .entry)) from)
-        (held (now (state .exit)) (now (tangents .exit)) (now (norms .exit)) r) ⌝ }
-{
-    let mut p = from;
-    let mut w: u64 = 0;
-    while w < windows {
-        let v = p.outcome;
-        let Outcome::Accepted = v else {
-            return p;
-        };
-        p = window(system, matrix, state, tangents, norms, k, h, n, p);
-        w += 1;
-    }
-    p
-}
-
 // One measured window: the window, the sums, and its row.
 pub fn measured_window(
     system: System,
@@ -139,53 +109,6 @@ pub fn measured_window(
     let length = crate::duration(h, n);
     let elapsed = length * crate::as_float(p.windows);
     crate::write_row(row, &norms[..k], p, length, elapsed);
-    p
-}
-
-// The measured windows, if nothing is refused yet: each is lent its row of the rows slice.
-pub fn measure(
-    system: System,
-    matrix: &[f64],
-    state: &mut [f64],
-    tangents: &mut [f64],
-    norms: &mut [f64],
-    rows: &mut [f64],
-    k: usize,
-    h: f64,
-    n: u64,
-    windows: u64,
-    from: Progress,
-) -> Progress
-    requires { ⌜ Under.Fits system (now matrix) k h (limit + limit) limit (held (now state) (now tangents) (now norms) from) × (n ≤ limit) × (windows ≤ limit)
-        × (windows * (1 + 2 * k) ≤ length (now rows)) ⌝ }
-    ensures { λ r. ⌜ Under.MeasuredWindows system (now (matrix .entry)) k h n windows (held (now (state .entry)) (now (tangents .entry)) (now (norms .entry)) from) (now (rows .entry))
-        (held (now (state .exit)) (now (tangents .exit)) (now (norms .exit)) r) (now (rows .exit)) ⌝ }
-{
-    let width = 1 + 2 * k;
-    let mut p = from;
-    let mut w: u64 = 0;
-    let mut a = 0;
-    while w < windows {
-        let v = p.outcome;
-        let Outcome::Accepted = v else {
-            return p;
-        };
-        let e = a + width;
-        p = measured_window(
-            system,
-            matrix,
-            state,
-            tangents,
-            norms,
-            &mut rows[a..e],
-            k,
-            h,
-            n,
-            p,
-        );
-        w += 1;
-        a = e;
-    }
     p
 }
 

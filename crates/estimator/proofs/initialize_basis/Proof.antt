@@ -22,8 +22,9 @@ same-length-2 c = search needs
 returns : tie.Need-returns
 returns c =
     let g = c .before .before .before .before in
-    let a = g .before .before .before .before .before .before .before .before .before .args in
-    g .modified-gram-schmidt .ensures ∙ ap (λ (t : List Float). orthonormalised euclidean t (a .d) (a .norms .now)) (g .before .before .before .before .before .draw-directions .ensures)
+    let b = g .before .before .before .before .before in
+    let a = b .before .before .before .before .args in
+    g .modified-gram-schmidt .ensures ∙ ap (λ (t : List Float). orthonormalised euclidean t (a .d) (a .norms .now)) (b .draw-directions .ensures)
 
 pub initialize-basis-spec : {M : Type 1} → statement M
 initialize-basis-spec =

@@ -28,7 +28,8 @@ same-length-3 c = search needs
 
 returns : tie.Need-returns
 returns c =
-    let s = c .before .before .before .before .before .before .before .before .before in
+    let l = c .before .before .before in
+    let s = l .before .before .before .before .before .before in
     let n = s .before .before .before .before in
     let a = n .before .before .before .before .before .before .args in
     returned (s .estimate-largest .result) (λ (y : System). estimated (input y (a .matrix .now) zero⁺ (a .state .now) (settings 1 (a .step-size) (a .steps-per-window) (a .windows) 0 default-seed)) 1 (a .rows .now) (a .exponents .now) (a .final-state .now))

@@ -27,7 +27,8 @@ same-length-3 c = search needs
 
 returns : tie.Need-returns
 returns c =
-    let s = c .before .before .before .before .before .before .before .before .before in
+    let l = c .before .before .before in
+    let s = l .before .before .before .before .before .before in
     let n = s .before .before .before .before in
     let a = n .before .before .before .before .before .before .args in
     returned (s .estimate-spectrum-at .result) (λ (y : System). estimated (input y (a .matrix .now) (a .time) (a .state .now) (settings (a .top-k) (a .step-size) (a .steps-per-window) (a .windows) (a .transient-windows) (a .seed))) (a .top-k) (a .rows .now) (a .exponents .now) (a .final-state .now))

@@ -24,10 +24,10 @@ same-length-2 c = search needs
 
 returns : tie.Need-returns
 returns c =
-    let a = c .before .before .before .before .before .before .before .before .before .before .before .before .before .args in
-    let s = c .before .before .before .before .before .before .before .before .before .system-of .ensures in
-    let e = c .before .before .before .before .before .before .step .ensures
-    ∙ ap (λ (y : System). stepped y (a .matrix .now) (a .time) (a .state .now) (a .tangents .now) (a .count) (a .step-size)) s in
+    let o = c .before .before .before .before .before .before in
+    let n = o .before .before .before in
+    let a = n .before .before .before .before .args in
+    let e = o .step .ensures ∙ ap (λ (y : System). stepped y (a .matrix .now) (a .time) (a .state .now) (a .tangents .now) (a .count) (a .step-size)) (n .system-of .ensures) in
     let r = c .report .ensures in
     (r .0 ∙ ap (λ (y : Stepped). number-of (y .refusal)) e, r .1 ∙ ap (λ (y : Stepped). place-of (y .refusal)) e, ap (λ (y : Stepped). y .state) e, ap (λ (y : Stepped). y .tangents) e)
 

@@ -22,10 +22,13 @@ use Rattle.estimator.proofs.estimate.estimate_spectrum_at.Tie as tie
 abbrev input-of : tie.Start → Input
 input-of c = input (c .args .system) (c .args .matrix .now) (c .args .time) (c .args .state .now) (c .args .config)
 
+abbrev start : tie.After-validate → tie.Start
+start c = c .before .before .before .before .before .before
+
 -- what is known behind the tests
 module _ (c : tie.After-enum-told) where
   abbrev s : tie.Start
-  s = c .before .before .before .before .before .before .before .before
+  s = start (c .before .before)
 
   abbrev k : ℕ
   k = s .args .config .«top_k»
@@ -66,10 +69,10 @@ refused-requires c κs = search needs
 
 returns : tie.Need-returns
 returns c =
-    let s = c .before .before .before .before .before .before .before .before .before .before in
-    let a = s .args in
-    refused-by-tests (input-of s) (a .config .«top_k») (a .rows .now) (a .exponents .now) (a .final-state .now) _ (c .refused .result) (c .refused .ensures)
-    (sym (ap reported (c .before .before .e .given .1)) ∙ c .before .before .before .before .validate .ensures)
+    let v = c .before .before .before .before in
+    let a = start v .args in
+    refused-by-tests (input-of (start v)) (a .config .«top_k») (a .rows .now) (a .exponents .now) (a .final-state .now) _ (c .refused .result) (c .refused .ensures)
+    (sym (ap reported (c .before .before .e .given .1)) ∙ v .validate .ensures)
 
 enum-told : tie.Need-enum-told
 enum-told c = search needs

@@ -1,12 +1,12 @@
--- `estimator::progress::warm_up` meets its contract.
+-- `estimator::course::warm_up` meets its contract.
 use borrow.Author.Needs.{needs}
 use native.Mathlib.Omega.{arith}
 use Prim.Native.Nat.{_-_}
 use Rattle.estimator.specs.Progress.{held}
 use Rattle.estimator.proofs.Bounds.{fits-up}
 use Rattle.estimator.proofs.Loops.{Warming, warming-start, warming-next, warming-refused, warming-end}
-use Rattle.estimator.proofs.progress.warm_up.Statement.{statement}
-use Rattle.estimator.proofs.progress.warm_up.Tie as tie
+use Rattle.estimator.proofs.course.warm_up.Statement.{statement}
+use Rattle.estimator.proofs.course.warm_up.Tie as tie
 
 abbrev Inv-loop : tie.InvT-loop
 Inv-loop system matrix state₀ tangents₀ norms₀ k h n windows p₀ w₀ state tangents norms p w = Warming system matrix k h n windows (held state₀ tangents₀ norms₀ p₀) w (held state tangents norms p)

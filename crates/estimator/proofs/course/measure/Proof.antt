@@ -1,4 +1,4 @@
--- `estimator::progress::measure` meets its contract.
+-- `estimator::course::measure` meets its contract.
 use borrow.Author.Needs.{needs}
 use native.Mathlib.Omega.{arith}
 use Prim.Native.Nat.{_+_, _-_, _*_, _≤_}
@@ -7,8 +7,8 @@ use lib.ListN.{length}
 use Rattle.estimator.specs.Progress.{held}
 use Rattle.estimator.proofs.Bounds.{fits-up}
 use Rattle.estimator.proofs.Loops.{Measuring, measuring-start, measuring-next, measuring-refused, measuring-end, row-room, part-many}
-use Rattle.estimator.proofs.progress.measure.Statement.{statement}
-use Rattle.estimator.proofs.progress.measure.Tie as tie
+use Rattle.estimator.proofs.course.measure.Statement.{statement}
+use Rattle.estimator.proofs.course.measure.Tie as tie
 
 abbrev Inv-loop : tie.InvT-loop
 Inv-loop system matrix state₀ tangents₀ norms₀ rows₀ k h n windows width p₀ w₀ a₀ state tangents norms rows p w a =
@@ -62,7 +62,10 @@ add-e : tie.Need-add-e Inv-loop μ-loop
 add-e c = omega (arith, room (iteration c))
 
 mul-measured-window : tie.Need-mul-measured-window Inv-loop μ-loop
-mul-measured-window c = let f = iteration (c .before .before .before) in omega (arith, room f, f .before .loop .inv .rows-kept, start f .good .1 .1 .1 .1 .1 .0)
+mul-measured-window c =
+    let f = iteration (c .before .before .before) in
+    let g = start f .good .1 .1 in
+    omega (arith, room f, f .before .loop .inv .rows-kept, g .1 .1 .1 .0)
 
 sub-measured-window : tie.Need-sub-measured-window Inv-loop μ-loop
 sub-measured-window c = search needs
