@@ -6,10 +6,11 @@ use mathlib.Core.List.{List, [], _∷_}
 use mathlib.Core.Option.{Option}
 use lib.Dec.{eqb}
 use lib.Ieee.{Float}
-use Rattle.error.specs.Refusal.{Answer, value, refused, number-of, place-of}
+use Rattle.error.specs.Refusal.{Answer, value, refused, refusal-in, number-of, place-of}
 use Rattle.error.specs.Tests.{first-failing}
 use Rattle.error.specs.declared.Refusal.{Refusal}
 use Rattle.gram_schmidt.specs.GramSchmidt.{Orthonormalised}
+use Rattle.rk4.specs.Step.{Stepped}
 use Rattle.system.specs.declared.System.{System}
 use Rattle.system.specs.declared.System.the-variants.{Lorenz, Rossler, VanDerPol, Linear}
 use Rattle.benettin.specs.Run.{input-tests}
@@ -29,21 +30,31 @@ system kind p₀ p₁ p₂ d =
     (cond (eqb kind 2) (VanDerPol p₀)
     (cond (eqb kind 3) (Linear d) (Linear 0))))
 
--- what a call of the orthonormaliser returns and leaves
-pub record OrthonormaliserReturns (number place : ℕ) (tangents norms : List Float) (x : Orthonormalised) : Type 0 where
-  pub number-is : number ≡ number-of (x .refusal)
-  pub place-is : place ≡ place-of (x .refusal)
-  pub tangents-are : tangents ≡ x .tangents
-  pub norms-are : norms ≡ x .norms
-
--- what the first failing test of 1 to 12 refuses of a run for K rates
-abbrev pub input-refusal : Input → ℕ → Option Refusal
-input-refusal i K = first-failing (input-tests (problem i) K)
-
 -- the number that is returned and the place that is written, of what is refused or not
 pub record Refuses (number place : ℕ) (o : Option Refusal) : Type 0 where
   pub number-is : number ≡ number-of o
   pub place-is : place ≡ place-of o
+
+-- what a call of the orthonormaliser returns and leaves
+pub record OrthonormaliserReturns (number place : ℕ) (tangents norms : List Float) (x : Orthonormalised) : Type 0 where
+  pub refusal-is : Refuses number place (x .refusal)
+  pub tangents-are : tangents ≡ x .tangents
+  pub norms-are : norms ≡ x .norms
+
+-- what a call of a step returns and leaves
+pub record StepReturns (number place : ℕ) (state tangents : List Float) (x : Stepped) : Type 0 where
+  pub refusal-is : Refuses number place (x .refusal)
+  pub state-is : state ≡ x .state
+  pub tangents-are : tangents ≡ x .tangents
+
+-- what a call for a dimension or an entropy returns and leaves where `old` was
+pub record DiagnosticReturns (number place : ℕ) (old out : Float) (a : Answer Float) : Type 0 where
+  pub refusal-is : Refuses number place (refusal-in a)
+  pub value-is : out ≡ value-or old a
+
+-- what the first failing test of 1 to 12 refuses of a run for K rates
+abbrev pub input-refusal : Input → ℕ → Option Refusal
+input-refusal i K = first-failing (input-tests (problem i) K)
 
 -- the nineteen counts: place, finished measured windows, steps, and the sixteen faint counts
 abbrev pub counts : Estimated → List ℕ

@@ -10,7 +10,7 @@ ghost use lib.Ieee.{Float};
 ghost use Rattle.sqrt.specs.SquareRoot.{root};
 ghost use Rattle.ln.specs.Logarithm.{logarithm};
 ghost use Rattle.splitmix64.specs.Mix as Mix;
-ghost use Rattle.error.specs.Refusal.{number-of, place-of, reported, refusal-in};
+ghost use Rattle.error.specs.Refusal.{number-of, reported, refusal-in};
 ghost use Rattle.gram_schmidt.specs.GramSchmidt.{euclidean, orthonormalised};
 ghost use Rattle.rk4.specs.Step.{stepped};
 ghost use Rattle.floats.specs.Arithmetic.{zero⁺};
@@ -53,7 +53,7 @@ fn system_of(kind: u64, p0: f64, p1: f64, p2: f64, dimension: usize) -> System
 
 // The number of what is refused is the result, and its place goes to `place`.
 fn report(outcome: Outcome, place: &mut u64) -> u64
-    ensures { λ r. ⌜ (r ≡ number-of (reported outcome)) × (now (place .exit) ≡ place-of (reported outcome)) ⌝ }
+    ensures { λ r. ⌜ Interface.Refuses r (now (place .exit)) (reported outcome) ⌝ }
 {
     match outcome {
         Outcome::Accepted => {
@@ -98,7 +98,7 @@ fn report_run(answer: SpectrumEstimate, counts: &mut [u64; 19], times: &mut [f64
 
 // A dimension or an entropy goes to `out`, which a refusal leaves as it is.
 fn report_diagnostic(diagnostic: diagnostics::Diagnostic, out: &mut f64, place: &mut u64) -> u64
-    ensures { λ r. ⌜ (r ≡ number-of (refusal-in (Rates.answer diagnostic))) × (now (place .exit) ≡ place-of (refusal-in (Rates.answer diagnostic))) × (now (out .exit) ≡ Interface.value-or (now (out .entry)) (Rates.answer diagnostic)) ⌝ }
+    ensures { λ r. ⌜ Interface.DiagnosticReturns r (now (place .exit)) (now (out .entry)) (now (out .exit)) (Rates.answer diagnostic) ⌝ }
 {
     match diagnostic {
         diagnostics::Diagnostic::Value(x) => {
@@ -185,10 +185,8 @@ pub extern "C" fn lyapunov_step(
     step_size: f64,
     place: &mut u64,
 ) -> u64
-    ensures { λ r. ⌜ (r ≡ number-of (stepped (Interface.system kind p0 p1 p2 dimension) (now (matrix .entry)) time (now (state .entry)) (now (tangents .entry)) count «step_size» .refusal))
-        × (now (place .exit) ≡ place-of (stepped (Interface.system kind p0 p1 p2 dimension) (now (matrix .entry)) time (now (state .entry)) (now (tangents .entry)) count «step_size» .refusal))
-        × (now (state .exit) ≡ stepped (Interface.system kind p0 p1 p2 dimension) (now (matrix .entry)) time (now (state .entry)) (now (tangents .entry)) count «step_size» .state)
-        × (now (tangents .exit) ≡ stepped (Interface.system kind p0 p1 p2 dimension) (now (matrix .entry)) time (now (state .entry)) (now (tangents .entry)) count «step_size» .tangents) ⌝ }
+    ensures { λ r. ⌜ Interface.StepReturns r (now (place .exit)) (now (state .exit)) (now (tangents .exit))
+        (stepped (Interface.system kind p0 p1 p2 dimension) (now (matrix .entry)) time (now (state .entry)) (now (tangents .entry)) count «step_size») ⌝ }
 {
     let system = system_of(kind, p0, p1, p2, dimension);
     let outcome = rk4::step(system, matrix, time, state, tangents, count, step_size);
@@ -204,8 +202,7 @@ pub extern "C" fn lyapunov_build_config(
     windows: u64,
     place: &mut u64,
 ) -> u64
-    ensures { λ r. ⌜ (r ≡ number-of (refusal-in (configured «top_k» «step_size» «steps_per_window» windows)))
-        × (now (place .exit) ≡ place-of (refusal-in (configured «top_k» «step_size» «steps_per_window» windows))) ⌝ }
+    ensures { λ r. ⌜ Interface.Refuses r (now (place .exit)) (refusal-in (configured «top_k» «step_size» «steps_per_window» windows)) ⌝ }
 {
     match BenettinConfig::new(top_k, step_size, steps_per_window, windows) {
         Configured::Config(_) => report(Outcome::Accepted, place),
@@ -390,8 +387,7 @@ pub extern "C" fn lyapunov_kaplan_yorke_dimension(
     out: &mut f64,
     place: &mut u64,
 ) -> u64
-    ensures { λ r. ⌜ (r ≡ number-of (refusal-in (Rates.dimension (now (exponents .entry))))) × (now (place .exit) ≡ place-of (refusal-in (Rates.dimension (now (exponents .entry)))))
-        × (now (out .exit) ≡ Interface.value-or (now (out .entry)) (Rates.dimension (now (exponents .entry)))) ⌝ }
+    ensures { λ r. ⌜ Interface.DiagnosticReturns r (now (place .exit)) (now (out .entry)) (now (out .exit)) (Rates.dimension (now (exponents .entry))) ⌝ }
 {
     report_diagnostic(diagnostics::kaplan_yorke_dimension(exponents), out, place)
 }
@@ -403,8 +399,7 @@ pub extern "C" fn lyapunov_kolmogorov_sinai_entropy(
     out: &mut f64,
     place: &mut u64,
 ) -> u64
-    ensures { λ r. ⌜ (r ≡ number-of (refusal-in (Rates.entropy (now (exponents .entry))))) × (now (place .exit) ≡ place-of (refusal-in (Rates.entropy (now (exponents .entry)))))
-        × (now (out .exit) ≡ Interface.value-or (now (out .entry)) (Rates.entropy (now (exponents .entry)))) ⌝ }
+    ensures { λ r. ⌜ Interface.DiagnosticReturns r (now (place .exit)) (now (out .entry)) (now (out .exit)) (Rates.entropy (now (exponents .entry))) ⌝ }
 {
     report_diagnostic(diagnostics::kolmogorov_sinai_entropy(exponents), out, place)
 }

@@ -1,9 +1,9 @@
 -- `lyapunov::lyapunov_build_config` meets its contract.
 use borrow.Author.Needs.{needs}
 use mathlib.Core.Path.{sym, ap, _∙_}
-use Rattle.error.specs.Refusal.{Answer, number-of, place-of, refusal-in}
+use Rattle.error.specs.Refusal.{refusal-in}
 use Rattle.benettin.specs.Estimate.{configuration}
-use Rattle.benettin.specs.declared.BenettinConfig.{BenettinConfig}
+use Rattle.lyapunov.proofs.Runs.{refuses-alike}
 use Rattle.lyapunov.proofs.lyapunov_build_config.Statement.{statement}
 use Rattle.lyapunov.proofs.lyapunov_build_config.Tie as tie
 
@@ -25,12 +25,12 @@ report-requires-2 c κs = search needs
 returns : tie.Need-returns
 returns c =
     let e = sym (ap configuration (c .before .before .enum-told .given .1)) ∙ c .before .before .before .before .new .ensures in
-    (c .report .ensures .0 ∙ ap (λ (y : Answer BenettinConfig). number-of (refusal-in y)) e, c .report .ensures .1 ∙ ap (λ (y : Answer BenettinConfig). place-of (refusal-in y)) e)
+    refuses-alike (ap refusal-in e) (c .report .ensures)
 
 returns-2 : tie.Need-returns-2
 returns-2 c =
     let e = sym (ap configuration (c .before .before .before .e .given .1)) ∙ c .before .before .before .before .before .new .ensures in
-    (c .report2 .ensures .0 ∙ ap (λ (y : Answer BenettinConfig). number-of (refusal-in y)) e, c .report2 .ensures .1 ∙ ap (λ (y : Answer BenettinConfig). place-of (refusal-in y)) e)
+    refuses-alike (ap refusal-in e) (c .report2 .ensures)
 
 pub lyapunov-build-config-spec : {M : Type 1} → statement M
 lyapunov-build-config-spec =

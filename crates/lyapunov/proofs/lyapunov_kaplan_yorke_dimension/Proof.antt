@@ -1,9 +1,6 @@
 -- `lyapunov::lyapunov_kaplan_yorke_dimension` meets its contract.
 use borrow.Author.Needs.{needs}
-use mathlib.Core.Path.{ap, _∙_}
-use lib.Ieee.{Float}
-use Rattle.error.specs.Refusal.{Answer, number-of, place-of, refusal-in}
-use Rattle.lyapunov.specs.Interface.{value-or}
+use Rattle.lyapunov.proofs.Runs.{diagnostic-alike}
 use Rattle.lyapunov.proofs.lyapunov_kaplan_yorke_dimension.Statement.{statement}
 use Rattle.lyapunov.proofs.lyapunov_kaplan_yorke_dimension.Tie as tie
 
@@ -14,10 +11,7 @@ report-diagnostic-requires : tie.Need-report-diagnostic-requires
 report-diagnostic-requires c κs = search needs
 
 returns : tie.Need-returns
-returns c =
-    let e = c .before .before .before .kaplan-yorke-dimension .ensures in
-    let r = c .report-diagnostic .ensures in
-    (r .0 ∙ ap (λ (y : Answer Float). number-of (refusal-in y)) e, r .1 ∙ ap (λ (y : Answer Float). place-of (refusal-in y)) e, r .2 ∙ ap (value-or (c .before .before .before .before .before .args .out .now)) e)
+returns c = diagnostic-alike (c .before .before .before .kaplan-yorke-dimension .ensures) (c .report-diagnostic .ensures)
 
 pub lyapunov-kaplan-yorke-dimension-spec : {M : Type 1} → statement M
 lyapunov-kaplan-yorke-dimension-spec =

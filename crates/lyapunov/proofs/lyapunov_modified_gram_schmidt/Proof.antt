@@ -1,8 +1,8 @@
 -- `lyapunov::lyapunov_modified_gram_schmidt` meets its contract.
 use borrow.Author.Needs.{needs}
-use mathlib.Core.Path.{ap, _∙_}
-use Rattle.error.specs.Refusal.{number-of, place-of}
+use mathlib.Core.Path.{ap}
 use Rattle.gram_schmidt.specs.GramSchmidt.{Orthonormalised}
+use Rattle.lyapunov.proofs.Runs.{refuses-alike}
 use Rattle.lyapunov.proofs.lyapunov_modified_gram_schmidt.Statement.{statement}
 use Rattle.lyapunov.proofs.lyapunov_modified_gram_schmidt.Tie as tie
 
@@ -23,8 +23,7 @@ returns c =
     let e = c .before .before .before .before .before .before .modified-gram-schmidt .ensures in
     let r = c .report .ensures in
     record {
-      number-is = r .0 ∙ ap (λ (y : Orthonormalised). number-of (y .refusal)) e;
-      place-is = r .1 ∙ ap (λ (y : Orthonormalised). place-of (y .refusal)) e;
+      refusal-is = refuses-alike (ap (λ (y : Orthonormalised). y .refusal) e) r;
       tangents-are = ap (λ (y : Orthonormalised). y .tangents) e;
       norms-are = ap (λ (y : Orthonormalised). y .norms) e;
     }

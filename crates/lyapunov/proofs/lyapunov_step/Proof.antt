@@ -1,9 +1,9 @@
 -- `lyapunov::lyapunov_step` meets its contract.
 use borrow.Author.Needs.{needs}
 use mathlib.Core.Path.{ap, _∙_}
-use Rattle.error.specs.Refusal.{number-of, place-of}
 use Rattle.rk4.specs.Step.{Stepped, stepped}
 use Rattle.system.specs.declared.System.{System}
+use Rattle.lyapunov.proofs.Runs.{refuses-alike}
 use Rattle.lyapunov.proofs.lyapunov_step.Statement.{statement}
 use Rattle.lyapunov.proofs.lyapunov_step.Tie as tie
 
@@ -29,7 +29,7 @@ returns c =
     let a = n .before .before .before .before .args in
     let e = o .step .ensures ∙ ap (λ (y : System). stepped y (a .matrix .now) (a .time) (a .state .now) (a .tangents .now) (a .count) (a .step-size)) (n .system-of .ensures) in
     let r = c .report .ensures in
-    (r .0 ∙ ap (λ (y : Stepped). number-of (y .refusal)) e, r .1 ∙ ap (λ (y : Stepped). place-of (y .refusal)) e, ap (λ (y : Stepped). y .state) e, ap (λ (y : Stepped). y .tangents) e)
+    record { refusal-is = refuses-alike (ap (λ (y : Stepped). y .refusal) e) r; state-is = ap (λ (y : Stepped). y .state) e; tangents-are = ap (λ (y : Stepped). y .tangents) e }
 
 pub lyapunov-step-spec : {M : Type 1} → statement M
 lyapunov-step-spec =

@@ -1,10 +1,10 @@
 -- `lyapunov::lyapunov_validate` meets its contract.
 use borrow.Author.Needs.{needs}
 use mathlib.Core.Path.{ap, _∙_}
-use Rattle.error.specs.Refusal.{number-of, place-of}
 use Rattle.system.specs.declared.System.{System}
 use Rattle.benettin.specs.Estimate.{input, settings, default-seed}
 use Rattle.lyapunov.specs.Interface.{input-refusal}
+use Rattle.lyapunov.proofs.Runs.{refuses-alike}
 use Rattle.lyapunov.proofs.lyapunov_validate.Statement.{statement}
 use Rattle.lyapunov.proofs.lyapunov_validate.Tie as tie
 
@@ -23,7 +23,7 @@ returns c =
     let a = v .before .before .before .before .args in
     let e = v .validate-input .ensures
     ∙ ap (λ (s : System). input-refusal (input s (a .matrix .now) (a .time) (a .state .now) (settings (a .top-k) (a .step-size) (a .steps-per-window) (a .windows) (a .transient-windows) default-seed)) (a .top-k)) (v .before .system-of .ensures) in
-    record { number-is = c .report .ensures .0 ∙ ap number-of e; place-is = c .report .ensures .1 ∙ ap place-of e }
+    refuses-alike e (c .report .ensures)
 
 pub lyapunov-validate-spec : {M : Type 1} → statement M
 lyapunov-validate-spec =

@@ -23,7 +23,7 @@ returns c = search needs
 returns-2 : tie.Need-returns-2
 returns-2 c =
     let e = sym (ap reported (c .before .before .before .outcome .given .1)) in
-    (c .number .ensures ∙ ap number-of e, c .before .place .ensures ∙ ap place-of e)
+    record { number-is = c .number .ensures ∙ ap number-of e; place-is = c .before .place .ensures ∙ ap place-of e }
 
 pub report-spec : {M : Type 1} → statement M
 report-spec =

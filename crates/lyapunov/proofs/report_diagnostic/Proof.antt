@@ -1,10 +1,10 @@
 -- `lyapunov::report_diagnostic` meets its contract.
 use borrow.Author.Needs.{needs}
-use mathlib.Core.Path.{ap, _∙_, sym}
-use lib.Ieee.{Float}
-use Rattle.error.specs.Refusal.{Answer, number-of, place-of, refusal-in}
+use mathlib.Core.Path.{ap, sym}
+use Rattle.error.specs.Refusal.{refusal-in}
 use Rattle.diagnostics.specs.Rates.{answer}
 use Rattle.lyapunov.specs.Interface.{value-or}
+use Rattle.lyapunov.proofs.Runs.{refuses-alike}
 use Rattle.lyapunov.proofs.report_diagnostic.Statement.{statement}
 use Rattle.lyapunov.proofs.report_diagnostic.Tie as tie
 
@@ -26,7 +26,7 @@ returns c = search needs
 returns-2 : tie.Need-returns-2
 returns-2 c =
     let e = sym (ap answer (c .before .before .before .diagnostic2 .given .1)) in
-    (c .report2 .ensures .0 ∙ ap (λ (y : Answer Float). number-of (refusal-in y)) e, c .report2 .ensures .1 ∙ ap (λ (y : Answer Float). place-of (refusal-in y)) e, ap (value-or _) e)
+    record { refusal-is = refuses-alike (ap refusal-in e) (c .report2 .ensures); value-is = ap (value-or _) e }
 
 pub report-diagnostic-spec : {M : Type 1} → statement M
 report-diagnostic-spec =

@@ -17,8 +17,8 @@ returns c rows exponents final =
     let r = c .before .before .report .ensures in
     let a = c .before .before .before .before .before .args .answer in
     record {
-      number-is = r .0;
-      counts-are = c .counts-of .ensures ∙ ap (λ (p : ℕ). p ∷ a .windows ∷ a .steps ∷ a .faint) (r .1);
+      number-is = r .number-is;
+      counts-are = c .counts-of .ensures ∙ ap (λ (p : ℕ). p ∷ a .windows ∷ a .steps ∷ a .faint) (r .place-is);
       times-are = refl;
       rows-are = refl;
       exponents-are = refl;
