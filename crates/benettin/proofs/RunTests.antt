@@ -35,7 +35,7 @@ module _ {P : Position} {o : Option ℕ} (e : index P ≡ o) where
 -- ---- what passing a block gives
 
 module _ (K : ℕ) (h : Float) (steps later whole warm-up : ℕ) where
-  settings-passed : none ≡ first-failing (setting-tests K h steps later whole warm-up)
+  pub settings-passed : none ≡ first-failing (setting-tests K h steps later whole warm-up)
       → (0 < K) × (positive h ≡ true) × (0 < steps) × (0 < later) × (steps ≤ limit) × (whole ≤ limit) × (warm-up ≤ limit)
   settings-passed e₁ =
       let p₁ = passed _ _ e₁ in
@@ -51,14 +51,14 @@ finite-passed : (o : Option ℕ) (ts : List Test) → none ≡ first-failing (te
 finite-passed none ts e = refl
 finite-passed (some i) ts e = let p = passed _ _ e in let z : _≡_ {A = ℕ} 0 1 = cc in absurd (omega arith)
 
-state-passed : (S : System) (x : List Float) → none ≡ first-failing (state-tests S x) → (length x ≡ dim S) × (first-not-finite x ≡ none)
+pub state-passed : (S : System) (x : List Float) → none ≡ first-failing (state-tests S x) → (length x ≡ dim S) × (first-not-finite x ≡ none)
 state-passed S x e = let p = both-passed _ _ e in (length-passed S x .0 (p .0), finite-passed _ _ (p .1))
 
-count-passed : (K d : ℕ) → none ≡ first-failing (count-tests K d) → K ≤ d
+pub count-passed : (K d : ℕ) → none ≡ first-failing (count-tests K d) → K ≤ d
 count-passed K d e = leb-true K d (passed _ _ e .0)
 
 module _ (K d windows : ℕ) (o : OutputLengths) where
-  outputs-passed : none ≡ first-failing (output-tests K d windows o) → (windows * (1 + 2 * K) ≤ o .rows) × (K ≤ o .exponents) × (d ≤ o .state)
+  pub outputs-passed : none ≡ first-failing (output-tests K d windows o) → (windows * (1 + 2 * K) ≤ o .rows) × (K ≤ o .exponents) × (d ≤ o .state)
   outputs-passed e =
       let q₀ = passed _ _ e in
       let q₁ = passed _ _ (q₀ .1) in

@@ -17,22 +17,24 @@ use system::System;
 fn validate_limits(steps: u64, later: u64, whole: u64, warm_up: u64) -> Outcome
     ensures { λ r. ⌜ reported r ≡ first-failing (Estimate.limit-tests steps later whole «warm_up») ⌝ }
 {
-    if steps == 0 {
-        return Outcome::Refused(LyapunovError::ZeroStepsPerWindow);
-    }
-    if later == 0 {
-        return Outcome::Refused(LyapunovError::ZeroWindows);
-    }
-    if crate::COUNT_LIMIT < steps {
-        return Outcome::Refused(LyapunovError::CountAboveLimit(0));
-    }
-    if crate::COUNT_LIMIT < whole {
-        return Outcome::Refused(LyapunovError::CountAboveLimit(1));
-    }
-    if crate::COUNT_LIMIT < warm_up {
-        return Outcome::Refused(LyapunovError::CountAboveLimit(2));
-    }
-    Outcome::Accepted
+    let some_steps = error::test(0 < steps, LyapunovError::ZeroStepsPerWindow);
+    let some_windows = error::test(0 < later, LyapunovError::ZeroWindows);
+    let steps = error::test(
+        steps <= crate::COUNT_LIMIT,
+        LyapunovError::CountAboveLimit(0),
+    );
+    let windows = error::test(
+        whole <= crate::COUNT_LIMIT,
+        LyapunovError::CountAboveLimit(1),
+    );
+    let warm_up = error::test(
+        warm_up <= crate::COUNT_LIMIT,
+        LyapunovError::CountAboveLimit(2),
+    );
+    let rest = error::first_refusal(windows, warm_up);
+    let rest = error::first_refusal(steps, rest);
+    let rest = error::first_refusal(some_windows, rest);
+    error::first_refusal(some_steps, rest)
 }
 
 // The tests 1 to 5.
@@ -46,11 +48,11 @@ pub fn validate_settings(
 ) -> Outcome
     ensures { λ r. ⌜ reported r ≡ first-failing (Estimate.setting-tests «top_k» «step_size» steps later whole «warm_up») ⌝ }
 {
-    let some = error::test(0 < top_k, LyapunovError::ZeroTopK);
+    let top_k = error::test(0 < top_k, LyapunovError::ZeroTopK);
     let step_size = rk4::validation::validate_step_size(step_size);
     let limits = validate_limits(steps, later, whole, warm_up);
     let rest = error::first_refusal(step_size, limits);
-    error::first_refusal(some, rest)
+    error::first_refusal(top_k, rest)
 }
 
 // Test 11.
@@ -106,16 +108,17 @@ pub fn validate_outputs(
 ) -> Outcome
     ensures { λ r. ⌜ reported r ≡ first-failing (Run.output-tests «top_k» (dim system) windows (Run.lengths rows exponents last)) ⌝ }
 {
-    if !rows_fit(top_k, windows, rows) {
-        return Outcome::Refused(LyapunovError::OutputTooShort(0));
-    }
-    if exponents < top_k {
-        return Outcome::Refused(LyapunovError::OutputTooShort(1));
-    }
-    error::test(
+    let rows = error::test(
+        rows_fit(top_k, windows, rows),
+        LyapunovError::OutputTooShort(0),
+    );
+    let exponents = error::test(top_k <= exponents, LyapunovError::OutputTooShort(1));
+    let last = error::test(
         system::dimension(system) <= last,
         LyapunovError::OutputTooShort(2),
-    )
+    );
+    let rest = error::first_refusal(exponents, last);
+    error::first_refusal(rows, rest)
 }
 
 // The tests 1 to 12.

@@ -1,10 +1,8 @@
 -- A list of tests: what is refused at the first that fails, and what is known once all are passed.
-use Prim.Native.Nat.{ℕ, zero, suc}
+use Prim.Native.Nat.{ℕ}
 use native.Mathlib.Omega.{arith}
 use mathlib.Core.Path.{_≡_, refl, sym, ap, _∙_}
 use mathlib.Core.Bool.{Bool, true, false, cond}
-use borrow.Author.Tests.{lt-ltb}
-use lib.Dec.{ltb}
 use mathlib.Core.List.{List, [], _∷_, _++_}
 use mathlib.Core.Option.{Option, none, some}
 use Rattle.error.specs.Refusal.{refusal, reported}
@@ -89,12 +87,3 @@ tested t e f = rw (← f) e
 -- of two blocks
 pub chained : (ts us : List Test) {a b o : Option Refusal} → o ≡ (a else b) → a ≡ first-failing ts → b ≡ first-failing us → o ≡ first-failing (ts ++ us)
 chained ts us e f g = e ∙ rw (f, g) (sym (first-append ts us))
-
--- ---- what the code's tests say
-
-pub positive-passes : (k : ℕ) → (k ≡ 0 → ⊥) → ltb 0 k ≡ true
-positive-passes zero h = absurd (h refl)
-positive-passes (suc k) h = lt-ltb 0 (suc k) (omega arith)
-
-pub zero-fails : (k : ℕ) → k ≡ 0 → ltb 0 k ≡ false
-zero-fails k e = rw e

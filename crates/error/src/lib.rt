@@ -2,6 +2,7 @@
 //
 // Every refusal of the library is a LyapunovError. specs/Refusal.antt gives each variant the number and the place that
 // document 01 gives it, and every contract that speaks of a refusal goes through that definition: start reading there.
+// specs/Tests.antt says what a list of tests refuses; `test` and `first_refusal` make such lists.
 ghost use mathlib.Core.Path.{_≡_};
 ghost use mathlib.Core.List.{[], _∷_};
 ghost use Rattle.error.specs.Refusal as Spec;
@@ -108,7 +109,7 @@ pub fn test(passes: bool, error: LyapunovError) -> Outcome
     }
 }
 
-// Tests behind tests: what the first refuse, else what the second do.
+// Tests behind tests, all of them made: what the first refuse, else what the second do.
 pub fn first_refusal(first: Outcome, second: Outcome) -> Outcome
     ensures { λ r. ⌜ Spec.reported r ≡ (Spec.reported first else Spec.reported second) ⌝ }
 {

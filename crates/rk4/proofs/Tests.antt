@@ -37,15 +37,9 @@ pub answered : {o : Option Refusal} {y vs : List Float} {A : Stepped} → o ≡ 
     → record { refusal = o; state = y; tangents = vs } ≡ A
 answered {y = y} {vs = vs} e f = ap (λ (o : Option Refusal). record { refusal = o; state = y; tangents = vs }) e ∙ f
 
--- ---- the tests
+-- ---- what passing a block gives, and that a block is passed where it is known
 
-evaluable : (S : System) (m : List Float) → matrix-fits S m ≡ true → dim S ≤ 16 → Evaluable S m
-evaluable (Lorenz σ ρ β) m e h = tt
-evaluable (Rossler a b c) m e h = tt
-evaluable (VanDerPol μ) m e h = tt
-evaluable (Linear d) m e h = (eqb-true (length m) (d * d) e, h)
-
-tangents-passed : (S : System) (t : List Float) (n : ℕ) → (none ≡ first-failing (tangent-tests S t n)) ↔ (n ≤ 16) × (length t ≡ n * dim S)
+pub tangents-passed : (S : System) (t : List Float) (n : ℕ) → (none ≡ first-failing (tangent-tests S t n)) ↔ (n ≤ 16) × (length t ≡ n * dim S)
 tangents-passed S t n =
     (λ e. let p = passed _ _ e in (leb-true _ _ (p .0), eqb-true _ _ (passed _ _ (p .1) .0)), λ h. skip _ _ (le-leb n 16 (h .0)) (skip _ _ (eq-eqb (length t) (n * dim S) (h .1)) none-left))
 
@@ -54,6 +48,14 @@ time-passed time = (λ e. passed _ _ e .0, λ h. skip _ _ h none-left)
 
 pub step-size-passed : (h : Float) → (none ≡ first-failing (step-size-tests h)) ↔ (positive h ≡ true)
 step-size-passed h = (λ e. passed _ _ e .0, λ p. skip _ _ p none-left)
+
+-- ---- all of them
+
+evaluable : (S : System) (m : List Float) → matrix-fits S m ≡ true → dim S ≤ 16 → Evaluable S m
+evaluable (Lorenz σ ρ β) m e h = tt
+evaluable (Rossler a b c) m e h = tt
+evaluable (VanDerPol μ) m e h = tt
+evaluable (Linear d) m e h = (eqb-true (length m) (d * d) e, h)
 
 module _ (S : System) (m : List Float) (time : Float) (x t : List Float) (n : ℕ) (h : Float) where
   -- no test fails if and only if this is known

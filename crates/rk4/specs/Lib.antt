@@ -1,4 +1,4 @@
--- What the contracts cite: the stepper, a step called alone, and the code's stages.
+-- What the contracts cite: the stepper, a step called alone with its tests, and the code's stages.
 pub mod Stepper
 pub mod Tests
 pub mod Step

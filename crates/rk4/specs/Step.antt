@@ -1,4 +1,4 @@
--- Document 01, "Step", called alone: its tests 7, 8, 9, 10, 19, 6, 2 in this order, then 16 and 17, and what the two slices hold afterwards. Definitions only.
+-- Document 01, "Step", called alone: its tests, then 16 and 17, and what the two slices hold afterwards. Definitions only.
 use Prim.Native.Nat.{ℕ}
 use mathlib.Core.List.{List, map}
 use mathlib.Core.Option.{Option, none, some}

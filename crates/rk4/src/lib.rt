@@ -1,9 +1,9 @@
 // The classical Runge-Kutta step of a state with its directions (source: Rk4 of system.rs).
 //
 // `step` equals a definition of specs/ for every input. Read specs/Stepper.antt first: explicit steppers and the
-// classical one. Then specs/Step.antt: the step that is called alone, with its tests and what it leaves in the two
-// slices. specs/Stages.antt only serves the private functions. proofs/Lengths.antt has what a caller needs: a step keeps
-// every length.
+// classical one. Then specs/Tests.antt and specs/Step.antt: the tests of a step that is called alone, which validation.rt
+// makes, and what it leaves in the two slices. specs/Stages.antt only serves the private functions. proofs/Lengths.antt and
+// proofs/Tests.antt have what a caller needs: a step keeps every length, and when no test fails.
 //
 // The four derivatives are arrays by value. The state's stage points are computed once and lent to every direction.
 // In dimension 2 and 3 every loop has a literal width, so that it unrolls: stage points have 3 entries, and in

@@ -1,8 +1,8 @@
 // The systems of document 01: dimension, vector field and tangent map of each (source: system.rs).
 //
 // Every function equals a definition of specs/System.antt for every input: start reading there. A field or a tangent map
-// comes as an array of 16, with zeros behind its entries (specs/Array.antt). Crate rk4 has the product with the matrix of
-// a linear system.
+// comes as an array of 16, with zeros behind its entries (specs/Array.antt). validation.rt tests a system and what is lent
+// beside it (specs/Tests.antt). Crate rk4 has the product with the matrix of a linear system.
 pub mod validation;
 
 ghost use mathlib.Core.Path.{_≡_};

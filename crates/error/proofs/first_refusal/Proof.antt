@@ -6,12 +6,6 @@ use Rattle.error.proofs.Tests.{else-stop, else-go}
 use Rattle.error.proofs.first_refusal.Statement.{statement}
 use Rattle.error.proofs.first_refusal.Tie as tie
 
-enum-told : tie.Need-enum-told
-enum-told c = search needs
-
-enum-known-first : tie.Need-enum-known-first
-enum-known-first c = search needs
-
 returns : tie.Need-returns
 returns c = else-go _ _ (sym (ap reported (c .enum-told .given .1))) refl
 
@@ -19,4 +13,4 @@ returns-2 : tie.Need-returns-2
 returns-2 c = else-stop _ _ _ (sym (ap reported (c .before .first .given .1)))
 
 pub first-refusal-spec : {M : Type 1} → statement M
-first-refusal-spec = tie.close (tie.spec enum-told enum-known-first returns returns-2)
+first-refusal-spec = tie.close (tie.spec (λ c. search needs) (λ c. search needs) returns returns-2)

@@ -29,17 +29,8 @@ returns-2 c =
     positive : (n : ℕ) → (n ≡ 0 → ⊥) → 0 < n
     positive n h = omega arith
 
-mul-result : tie.Need-mul-result
-mul-result c = search needs
-
-add-result : tie.Need-add-result
-add-result c = search needs
-
-div-result : tie.Need-div-result
-div-result c = search needs
-
 returns-3 : tie.Need-returns-3
 returns-3 c = let a = c .before .before .args in by-quotient (a .windows) (1 + 2 * a .top-k) (a .rows) (omega arith)
 
 pub rows-fit-spec : {M : Type 1} → statement M
-rows-fit-spec = tie.close (tie.spec returns returns-2 mul-result add-result div-result returns-3)
+rows-fit-spec = tie.close (tie.spec returns returns-2 (λ c. search needs) (λ c. search needs) (λ c. search needs) returns-3)

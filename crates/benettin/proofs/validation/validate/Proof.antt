@@ -6,15 +6,6 @@ use Rattle.benettin.specs.Estimate.{problem, dynamics}
 use Rattle.benettin.proofs.validation.validate.Statement.{statement}
 use Rattle.benettin.proofs.validation.validate.Tie as tie
 
-validate-input-requires : tie.Need-validate-input-requires
-validate-input-requires c κs = search needs
-
-validate-outputs-requires : tie.Need-validate-outputs-requires
-validate-outputs-requires c κs = search needs
-
-first-refusal-requires : tie.Need-first-refusal-requires
-first-refusal-requires c κs = search needs
-
 returns : tie.Need-returns
 unfolding run-tests problem dynamics
 returns c = chained _ _ (c .first-refusal .ensures) (c .before .before .validate-input .ensures) (c .before .validate-outputs .ensures)
@@ -22,4 +13,4 @@ returns c = chained _ _ (c .first-refusal .ensures) (c .before .before .validate
 pub validate-spec : {M : Type 1} → statement M
 validate-spec =
     tie.close
-    (tie.spec validate-input-requires validate-outputs-requires first-refusal-requires returns)
+    (tie.spec (λ c κs. search needs) (λ c κs. search needs) (λ c κs. search needs) returns)

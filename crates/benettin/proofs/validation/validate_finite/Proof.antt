@@ -5,15 +5,6 @@ use Rattle.benettin.proofs.RunTests.{stop-at, skip-nowhere}
 use Rattle.benettin.proofs.validation.validate_finite.Statement.{statement}
 use Rattle.benettin.proofs.validation.validate_finite.Tie as tie
 
-first-not-finite-requires : tie.Need-first-not-finite-requires
-first-not-finite-requires c κs = search needs
-
-enum-known-i : tie.Need-enum-known-i
-enum-known-i c = search needs
-
-enum-told : tie.Need-enum-told
-enum-told c = search needs
-
 returns : tie.Need-returns
 returns c = stop-at (c .before .before .before .first-not-finite .ensures) _ _ (c .before .i .given .1)
 
@@ -22,4 +13,4 @@ returns-2 c = skip _ _ (skip-nowhere (c .before .before .first-not-finite .ensur
 
 pub validate-finite-spec : {M : Type 1} → statement M
 validate-finite-spec =
-    tie.close (tie.spec first-not-finite-requires enum-known-i enum-told returns returns-2)
+    tie.close (tie.spec (λ c κs. search needs) (λ c. search needs) (λ c. search needs) returns returns-2)

@@ -5,21 +5,6 @@ use Rattle.error.proofs.Tests.{tested, chained}
 use Rattle.benettin.proofs.validation.validate_settings.Statement.{statement}
 use Rattle.benettin.proofs.validation.validate_settings.Tie as tie
 
-test-requires : tie.Need-test-requires
-test-requires c κs = search needs
-
-validate-step-size-requires : tie.Need-validate-step-size-requires
-validate-step-size-requires c κs = search needs
-
-validate-limits-requires : tie.Need-validate-limits-requires
-validate-limits-requires c κs = search needs
-
-first-refusal-requires : tie.Need-first-refusal-requires
-first-refusal-requires c κs = search needs
-
-first-refusal-requires-2 : tie.Need-first-refusal-requires-2
-first-refusal-requires-2 c κs = search needs
-
 returns : tie.Need-returns
 returns c =
     let l = c .before .before in
@@ -30,9 +15,9 @@ pub validate-settings-spec : {M : Type 1} → statement M
 validate-settings-spec =
     tie.close
     (tie.spec
-    test-requires
-    validate-step-size-requires
-    validate-limits-requires
-    first-refusal-requires
-    first-refusal-requires-2
+    (λ c κs. search needs)
+    (λ c κs. search needs)
+    (λ c κs. search needs)
+    (λ c κs. search needs)
+    (λ c κs. search needs)
     returns)

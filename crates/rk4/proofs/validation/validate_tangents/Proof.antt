@@ -14,16 +14,10 @@ use Rattle.rk4.proofs.validation.validate_tangents.Tie as tie
 returns : tie.Need-returns
 returns c = stop _ _ (lt-leb _ _ (c .if1 .taken))
 
-dimension-requires : tie.Need-dimension-requires
-dimension-requires c κs = search needs
-
 mul-filled : tie.Need-mul-filled
 mul-filled c =
     let h : c .dimension .result ≤ 16 = omega (arith, c .dimension .ensures, c .before .before .before .pre) in
     omega (arith, mul-le-mul {n₂ = 16} {m₂ = 16} (c .before .if1 .left) h)
-
-test-requires : tie.Need-test-requires
-test-requires c κs = search needs
 
 returns-2 : tie.Need-returns-2
 returns-2 c =
@@ -32,4 +26,4 @@ returns-2 c =
 
 pub validate-tangents-spec : {M : Type 1} → statement M
 validate-tangents-spec =
-    tie.close (tie.spec returns dimension-requires mul-filled test-requires returns-2)
+    tie.close (tie.spec returns (λ c κs. search needs) mul-filled (λ c κs. search needs) returns-2)
