@@ -163,7 +163,7 @@ for where in before behind; do
     wrong "$(first '^log')" "out $where" "memory $where out was written"
     wrong "$(first '^rates')" "rates $where" "memory $where rates was written"
     wrong "$(first '^rates')" "out $where" "memory $where out was written"
-    for kind in build step orth rates; do
+    for kind in build run step orth rates; do
         wrong "$(first "^$kind")" "place $where" "memory $where place was written"
     done
 done
@@ -172,7 +172,7 @@ wrong "$a_run" 'state changed' 'memory of the input x0 was written'
 wrong "$(first '^rates .*num=0')" 'rates changed' 'memory of the input rates was written'
 wrong "$a_run" 'counts kept' 'place: '
 wrong "$a_run" 'times kept' 'ftime, entry 0: '
-for kind in build step orth rates; do
+for kind in build run step orth rates; do
     wrong "$(first "^$kind")" 'place kept' 'place: '
 done
 for slice in rows:rows exponents:exps final_state:final; do
@@ -186,6 +186,8 @@ wrong "$over" 'place by K' 'refused by 5 at 1, but with K 17'
 wrong "$over" 'place by outputs' 'refused by 5 at 1, but with K 16 and rows of 600'
 wrong "$both_over" "builder's place by K" 'place with K 17, entry 0: 1, listed 0'
 wrong "$over" 'builder accepts' 'lyapunov_build_config: num, entry 0: 0, listed 5'
+wrong "$(first '^run .*num=11 ')" 'input accepted' 'lyapunov_validate: num, entry 0: 0, listed 11'
+wrong "$(first '^run .*num=13 ')" 'outputs tested' 'lyapunov_validate: num, entry 0: 13, listed 0'
 from_zero=$(first '^run .*sys=rossler .*K=1 h=3.* warmup=0 seed=4c594150554e4f56 t0=0000000000000000 .*num=0')
 wrong "$from_zero" 'from time one' 'lyapunov_estimate_spectrum: ftime'
 wrong "$from_zero" 'another seed' 'lyapunov_estimate_largest: '

@@ -340,11 +340,25 @@ static int run_is(const run *r, uint64_t (*call)(const run *, const outputs *)) 
            (num != 5 || place_is_fixed(r, place));
 }
 
+/* The tests 1 to 12 alone: they pass what is refused by a later one, or by none. */
+static int input_is(const run *r) {
+    const circuit *c = &r->circuit;
+    const lent *place = lend("place", OUTPUT, 1);
+    asked = "lyapunov_validate";
+    uint64_t num = lyapunov_validate(
+        c->kind, c->p[0], c->p[1], c->p[2], c->dimension, doubles(c->matrix), c->matrix->length,
+        r->time, doubles(r->start), r->start->length, r->top_k, r->step_size, r->steps, r->windows,
+        r->warm_up, words(place));
+    if (!memory_kept()) return 0;
+    if (decimal(answered("num")) <= 12) return refused_as(num, entry(place, 0));
+    return number_is("num", 0, num, 0) && number_is("place", 0, entry(place, 0), 0);
+}
+
 static int replay_run(void) {
     run r = {.circuit = read_circuit(), .start = lend_list("x0", INPUT)};
     r.time = number(given("t0"));
     read_settings(&r);
-    if (!run_is(&r, spectrum_at)) return 0;
+    if (!run_is(&r, spectrum_at) || !input_is(&r)) return 0;
     if (bits_of(r.time) != 0) return 1;
     if (!run_is(&r, spectrum_from_zero)) return 0;
     if (r.top_k != 1 || r.warm_up != 0 || r.seed != LYAPUNOV_DEFAULT_SEED) return 1;

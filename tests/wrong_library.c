@@ -6,6 +6,7 @@
 #define lyapunov_modified_gram_schmidt __real_lyapunov_modified_gram_schmidt
 #define lyapunov_step __real_lyapunov_step
 #define lyapunov_build_config __real_lyapunov_build_config
+#define lyapunov_validate __real_lyapunov_validate
 #define lyapunov_estimate_spectrum_at __real_lyapunov_estimate_spectrum_at
 #define lyapunov_estimate_spectrum __real_lyapunov_estimate_spectrum
 #define lyapunov_estimate_largest __real_lyapunov_estimate_largest
@@ -90,6 +91,22 @@ uint64_t __wrap_lyapunov_build_config(
     uint64_t n = lyapunov_build_config(top_k, step_size, steps_per_window, windows, place);
     if (n == 5 && top_k == 17 && is_wrong("builder's place", "by K")) *place = 1;
     if (is_wrong("builder", "accepts")) n = *place = 0;
+    return spoiled(n);
+}
+
+uint64_t __wrap_lyapunov_validate(
+    uint64_t kind, double p0, double p1, double p2, size_t dimension, const double *matrix,
+    size_t matrix_len, double time, const double *state, size_t state_len, size_t top_k,
+    double step_size, uint64_t steps_per_window, uint64_t windows, uint64_t transient_windows,
+    uint64_t *place) {
+    handed("matrix", matrix, matrix_len);
+    handed("state", state, state_len);
+    handed("place", place, 1);
+    uint64_t n = lyapunov_validate(kind, p0, p1, p2, dimension, matrix, matrix_len, time, state,
+                                   state_len, top_k, step_size, steps_per_window, windows,
+                                   transient_windows, place);
+    if (is_wrong("input", "accepted")) n = *place = 0;
+    if (is_wrong("outputs", "tested") && n == 0) n = 13;
     return spoiled(n);
 }
 
