@@ -52,7 +52,7 @@ finite-passed none ts e = refl
 finite-passed (some i) ts e = let p = passed _ _ e in let z : _≡_ {A = ℕ} 0 1 = cc in absurd (omega arith)
 
 pub state-passed : (S : System) (x : List Float) → none ≡ first-failing (state-tests S x) → (length x ≡ dim S) × (first-not-finite x ≡ none)
-state-passed S x e = let p = both-passed _ _ e in (length-passed S x .0 (p .0), finite-passed _ _ (p .1))
+state-passed S x e = let p = both-passed _ _ e in (length-passed S x (p .0), finite-passed _ _ (p .1))
 
 pub count-passed : (K d : ℕ) → none ≡ first-failing (count-tests K d) → K ≤ d
 count-passed K d e = leb-true K d (passed _ _ e .0)
@@ -90,7 +90,7 @@ module _ (i : Input) (K : ℕ) where
       let d = both-passed (matrix-tests (i .system) (i .matrix)) _ (c .1) in
       let f = both-passed (state-tests (i .system) (i .state)) _ (d .1) in
       let settings = settings-passed K (i .step-size) (i .steps) (i .windows) (i .windows) (i .warm-up) (a .0) in
-      let dimension = dimension-passed (i .system) .0 (c .0) in
+      let dimension = dimension-passed (i .system) (c .0) in
       let count = count-passed K (dim (i .system)) (f .1) in
       let outputs = outputs-passed K (dim (i .system)) (i .windows) o (q .1) in
       record {
@@ -98,12 +98,12 @@ module _ (i : Input) (K : ℕ) where
             record {
               dimension-above = dimension .0;
               dimension-within = dimension .1;
-              matrix = matrix-passed (i .system) (i .matrix) .0 (d .0);
+              matrix = matrix-passed (i .system) (i .matrix) (d .0);
               state = state-passed (i .system) (i .state) (f .0) .0;
               count = omega (arith, count, dimension .1);
               step-size = settings .1;
             };
-        clock = time-passed (i .time) .0 (b .0);
+        clock = time-passed (i .time) (b .0);
         directions = count;
         steps-limit = settings .4;
         windows-limit = settings .5;

@@ -3,15 +3,14 @@ use Prim.Native.Nat.{ℕ, _*_, _≤_}
 use mathlib.Core.Path.{_≡_, sym, ap, _∙_}
 use mathlib.Core.Bool.{true}
 use mathlib.Core.List.{List}
-use mathlib.Core.Logic.{_↔_}
 use mathlib.Core.Option.{Option, none, some}
-use borrow.Author.Tests.{leb-true, eqb-true, le-leb, eq-eqb}
+use borrow.Author.Tests.{leb-true, eqb-true}
 use lib.ListN.{length}
 use lib.Ieee.{Float}
 use lib.Ieee.Scale.{finite}
 use Rattle.error.specs.Tests.{first-failing}
 use Rattle.error.specs.declared.Refusal.{Refusal}
-use Rattle.error.proofs.Tests.{skip, passed, none-left, behind, both-passed}
+use Rattle.error.proofs.Tests.{passed, both-passed}
 use Rattle.floats.specs.Finite.{first-not-finite, index, positive}
 use Rattle.floats.specs.declared.Position.{Position}
 use Rattle.floats.specs.declared.Position.the-variants.{At, Nowhere}
@@ -37,17 +36,16 @@ pub answered : {o : Option Refusal} {y vs : List Float} {A : Stepped} → o ≡ 
     → record { refusal = o; state = y; tangents = vs } ≡ A
 answered {y = y} {vs = vs} e f = ap (λ (o : Option Refusal). record { refusal = o; state = y; tangents = vs }) e ∙ f
 
--- ---- what passing a block gives, and that a block is passed where it is known
+-- ---- what passing a block gives
 
-pub tangents-passed : (S : System) (t : List Float) (n : ℕ) → (none ≡ first-failing (tangent-tests S t n)) ↔ (n ≤ 16) × (length t ≡ n * dim S)
-tangents-passed S t n =
-    (λ e. let p = passed _ _ e in (leb-true _ _ (p .0), eqb-true _ _ (passed _ _ (p .1) .0)), λ h. skip _ _ (le-leb n 16 (h .0)) (skip _ _ (eq-eqb (length t) (n * dim S) (h .1)) none-left))
+tangents-passed : (S : System) (t : List Float) (n : ℕ) → none ≡ first-failing (tangent-tests S t n) → (n ≤ 16) × (length t ≡ n * dim S)
+tangents-passed S t n e = let p = passed _ _ e in (leb-true _ _ (p .0), eqb-true _ _ (passed _ _ (p .1) .0))
 
-pub time-passed : (time : Float) → (none ≡ first-failing (time-tests time)) ↔ (finite time ≡ true)
-time-passed time = (λ e. passed _ _ e .0, λ h. skip _ _ h none-left)
+pub time-passed : (time : Float) → none ≡ first-failing (time-tests time) → finite time ≡ true
+time-passed time e = passed _ _ e .0
 
-pub step-size-passed : (h : Float) → (none ≡ first-failing (step-size-tests h)) ↔ (positive h ≡ true)
-step-size-passed h = (λ e. passed _ _ e .0, λ p. skip _ _ p none-left)
+step-size-passed : (h : Float) → none ≡ first-failing (step-size-tests h) → positive h ≡ true
+step-size-passed h e = passed _ _ e .0
 
 -- ---- all of them
 
@@ -58,40 +56,26 @@ evaluable (VanDerPol μ) m e h = tt
 evaluable (Linear d) m e h = (eqb-true (length m) (d * d) e, h)
 
 module _ (S : System) (m : List Float) (time : Float) (x t : List Float) (n : ℕ) (h : Float) where
-  -- no test fails if and only if this is known
-  pub step-passed : (none ≡ first-failing (step-tests S m time x t n h)) ↔ Passed S m x n h × (length t ≡ n * dim S) × (finite time ≡ true)
-  step-passed = (known, none-fails)
-    where
-      known : none ≡ first-failing (step-tests S m time x t n h) → Passed S m x n h × (length t ≡ n * dim S) × (finite time ≡ true)
-      known e =
-          let a = both-passed _ _ e in
-          let b = both-passed _ _ (a .1) in
-          let c = both-passed _ _ (b .1) in
-          let d = both-passed _ _ (c .1) in
-          let f = both-passed _ _ (d .1) in
-          let dimension = dimension-passed S .0 (a .0) in
-          let tangents = tangents-passed S t n .0 (d .0) in (
-            record {
-              dimension-above = dimension .0;
-              dimension-within = dimension .1;
-              matrix = matrix-passed S m .0 (b .0);
-              state = length-passed S x .0 (c .0);
-              count = tangents .0;
-              step-size = step-size-passed h .0 (f .1);
-            },
-            tangents .1,
-            time-passed time .0 (f .0),
-          )
-
-      none-fails : Passed S m x n h × (length t ≡ n * dim S) × (finite time ≡ true) → none ≡ first-failing (step-tests S m time x t n h)
-      none-fails k =
-          let p = k .0 in
-          behind _ _ (dimension-passed S .1 (p .dimension-above, p .dimension-within))
-          (behind _ _ (matrix-passed S m .1 (p .matrix))
-          (behind _ _ (length-passed S x .1 (p .state))
-          (behind _ _ (tangents-passed S t n .1 (p .count, k .1))
-          (behind _ _ (time-passed time .1 (k .2))
-          (step-size-passed h .1 (p .step-size))))))
+  pub step-passed : none ≡ first-failing (step-tests S m time x t n h) → Passed S m x n h × (length t ≡ n * dim S) × (finite time ≡ true)
+  step-passed e =
+      let a = both-passed _ _ e in
+      let b = both-passed _ _ (a .1) in
+      let c = both-passed _ _ (b .1) in
+      let d = both-passed _ _ (c .1) in
+      let f = both-passed _ _ (d .1) in
+      let dimension = dimension-passed S (a .0) in
+      let tangents = tangents-passed S t n (d .0) in (
+        record {
+          dimension-above = dimension .0;
+          dimension-within = dimension .1;
+          matrix = matrix-passed S m (b .0);
+          state = length-passed S x (c .0);
+          count = tangents .0;
+          step-size = step-size-passed h (f .1);
+        },
+        tangents .1,
+        time-passed time (f .0),
+      )
 
   -- where no test fails the step is made
   pub stepped-accepted : none ≡ first-failing (step-tests S m time x t n h) → stepped S m time x t n h ≡ advanced S m x t n h
@@ -102,9 +86,6 @@ module _ (S : System) (m : List Float) (time : Float) (x t : List Float) (n : �
   pub stepped-refused : (r : Refusal) → some r ≡ first-failing (step-tests S m time x t n h) → stepped S m time x t n h ≡ record { refusal = some r; state = x; tangents = t }
   unfolding stepped
   stepped-refused r e = rw (← e)
-
-  pub stepped-passed : Passed S m x n h → length t ≡ n * dim S → finite time ≡ true → stepped S m time x t n h ≡ advanced S m x t n h
-  stepped-passed p l f = stepped-accepted (step-passed .1 (p, l, f))
 
 -- what the private functions of a step ask for
 pub steppable : {S : System} {m x : List Float} {n : ℕ} {h : Float} (t : List Float) → Passed S m x n h → length t ≡ n * dim S → Evaluable S m × (dim S ≡ length x) × (length t ≡ n * length x)

@@ -1,26 +1,24 @@
--- What is known of a system and of what is lent beside it once a block of tests is passed, and that no test fails where it is known.
+-- What is known of a system and of what is lent beside it once a block of tests is passed.
 use Prim.Native.Nat.{_≤_, _<_}
 use mathlib.Core.Path.{_≡_}
 use mathlib.Core.Bool.{true}
 use mathlib.Core.List.{List}
 use mathlib.Core.Option.{none}
-use mathlib.Core.Logic.{_↔_}
-use borrow.Author.Tests.{ltb-true, leb-true, eqb-true, lt-ltb, le-leb, eq-eqb}
+use borrow.Author.Tests.{ltb-true, leb-true, eqb-true}
 use lib.ListN.{length}
 use lib.Ieee.{Float}
 use Rattle.error.specs.Tests.{first-failing}
-use Rattle.error.proofs.Tests.{skip, passed, none-left}
+use Rattle.error.proofs.Tests.{passed}
 use Rattle.system.specs.System.{dim, matrix-fits}
 use Rattle.system.specs.Tests.{dimension-tests, matrix-tests, length-tests}
 use Rattle.system.specs.declared.System.{System}
 
 module _ (S : System) where
-  pub dimension-passed : (none ≡ first-failing (dimension-tests S)) ↔ (0 < dim S) × (dim S ≤ 16)
-  dimension-passed =
-      (λ e. let p = passed _ _ e in (ltb-true _ _ (p .0), leb-true _ _ (passed _ _ (p .1) .0)), λ h. skip _ _ (lt-ltb 0 (dim S) (h .0)) (skip _ _ (le-leb (dim S) 16 (h .1)) none-left))
+  pub dimension-passed : none ≡ first-failing (dimension-tests S) → (0 < dim S) × (dim S ≤ 16)
+  dimension-passed e = let p = passed _ _ e in (ltb-true _ _ (p .0), leb-true _ _ (passed _ _ (p .1) .0))
 
-  pub matrix-passed : (m : List Float) → (none ≡ first-failing (matrix-tests S m)) ↔ (matrix-fits S m ≡ true)
-  matrix-passed m = (λ e. passed _ _ e .0, λ h. skip _ _ h none-left)
+  pub matrix-passed : (m : List Float) → none ≡ first-failing (matrix-tests S m) → matrix-fits S m ≡ true
+  matrix-passed m e = passed _ _ e .0
 
-  pub length-passed : (x : List Float) → (none ≡ first-failing (length-tests S x)) ↔ (length x ≡ dim S)
-  length-passed x = (λ e. eqb-true _ _ (passed _ _ e .0), λ h. skip _ _ (eq-eqb (length x) (dim S) h) none-left)
+  pub length-passed : (x : List Float) → none ≡ first-failing (length-tests S x) → length x ≡ dim S
+  length-passed x e = eqb-true _ _ (passed _ _ e .0)

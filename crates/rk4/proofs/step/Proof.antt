@@ -34,7 +34,7 @@ step-requires c κs =
     let v = c .before .before .before .before in
     let ar = v .before .before .before .before .before .before .args in
     let p =
-    step-passed (ar .system) (ar .matrix .now) (ar .time) (ar .state .now) (ar .tangents .now) (ar .tangent-count) (ar .step-size) .0
+    step-passed (ar .system) (ar .matrix .now) (ar .time) (ar .state .now) (ar .tangents .now) (ar .tangent-count) (ar .step-size)
     (sym (ap reported (c .before .before .enum-told .given .1)) ∙ v .validate-step-inputs .ensures) in
     (p .0, p .1)
 

@@ -56,7 +56,7 @@ returns-3 : tie.Need-returns-3
 returns-3 c = let b = c .before .before .before in past-matrix (b .before) (refused _ (b .validate-length .ensures) _ _ (c .before .e3 .given .1))
 
 validate-tangents-requires : tie.Need-validate-tangents-requires
-validate-tangents-requires c κs = let b = first (second c) in dimension-passed (start b .args .system) .0 (dimension-accepted b) .1
+validate-tangents-requires c κs = let b = first (second c) in dimension-passed (start b .args .system) (dimension-accepted b) .1
 
 returns-4 : tie.Need-returns-4
 returns-4 c = let b = c .before .before .before in past-length (b .before) (refused _ (b .validate-tangents .ensures) _ _ (c .before .e4 .given .1))
