@@ -1,5 +1,5 @@
-// The tests of a run, 1 to 13: a function for each block of specs/Estimate.antt and of the end of specs/Run.antt. Crate rk4
-// has the blocks 2 and 6, crate system those of the system and of what is lent beside it.
+// The tests of a run, 1 to 13: a function for each block of specs/Estimate.antt and of the end of specs/Run.antt. Crate system
+// has the others: the system and what is lent beside it, 2 and 6.
 ghost use mathlib.Core.Path.{_≡_};
 ghost use Prim.Native.Nat.{_+_, _*_};
 ghost use lib.Dec.{leb};
@@ -49,7 +49,7 @@ pub fn validate_settings(
     ensures { λ r. ⌜ reported r ≡ first-failing (Estimate.setting-tests «top_k» «step_size» steps later whole «warm_up») ⌝ }
 {
     let top_k = error::test(0 < top_k, LyapunovError::ZeroTopK);
-    let step_size = rk4::validation::validate_step_size(step_size);
+    let step_size = system::validation::validate_step_size(step_size);
     let limits = validate_limits(steps, later, whole, warm_up);
     let rest = error::first_refusal(step_size, limits);
     error::first_refusal(top_k, rest)
@@ -139,7 +139,7 @@ pub fn validate_input(
         config.windows,
         config.transient_windows,
     );
-    let time = rk4::validation::validate_time(time);
+    let time = system::validation::validate_time(time);
     let dimension = system::validation::validate_dimension(system);
     let matrix = system::validation::validate_matrix(system, matrix);
     let state = validate_state(system, state);

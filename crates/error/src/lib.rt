@@ -115,6 +115,6 @@ pub fn first_refusal(first: Outcome, second: Outcome) -> Outcome
 {
     match first {
         Outcome::Accepted => second,
-        Outcome::Refused(error) => Outcome::Refused(error),
+        Outcome::Refused(e) => Outcome::Refused(e),
     }
 }

@@ -11,14 +11,14 @@ use lib.Ieee.Scale.{finite}
 use Rattle.error.specs.Tests.{first-failing}
 use Rattle.error.specs.declared.Refusal.{Refusal}
 use Rattle.error.proofs.Tests.{passed, both-passed}
-use Rattle.floats.specs.Finite.{first-not-finite, index, positive}
+use Rattle.floats.specs.Finite.{first-not-finite, index}
 use Rattle.floats.specs.declared.Position.{Position}
 use Rattle.floats.specs.declared.Position.the-variants.{At, Nowhere}
 use Rattle.system.specs.System.{dim, matrix-fits}
 use Rattle.system.specs.declared.System.{System}
 use Rattle.system.specs.declared.System.the-variants.{Lorenz, Rossler, VanDerPol, Linear}
-use Rattle.system.proofs.Tests.{dimension-passed, matrix-passed, length-passed}
-use Rattle.rk4.specs.Tests.{tangent-tests, time-tests, step-size-tests, step-tests, Passed}
+use Rattle.system.proofs.Tests.{dimension-passed, matrix-passed, length-passed, time-passed, step-size-passed}
+use Rattle.rk4.specs.Tests.{tangent-tests, step-tests, Passed}
 use Rattle.rk4.specs.Step.{Stepped, not-finite, advanced, stepped}
 use Rattle.rk4.specs.Stages.{Evaluable, tested-finite}
 
@@ -40,12 +40,6 @@ answered {y = y} {vs = vs} e f = ap (λ (o : Option Refusal). record { refusal =
 
 tangents-passed : (S : System) (t : List Float) (n : ℕ) → none ≡ first-failing (tangent-tests S t n) → (n ≤ 16) × (length t ≡ n * dim S)
 tangents-passed S t n e = let p = passed _ _ e in (leb-true _ _ (p .0), eqb-true _ _ (passed _ _ (p .1) .0))
-
-pub time-passed : (time : Float) → none ≡ first-failing (time-tests time) → finite time ≡ true
-time-passed time e = passed _ _ e .0
-
-step-size-passed : (h : Float) → none ≡ first-failing (step-size-tests h) → positive h ≡ true
-step-size-passed h e = passed _ _ e .0
 
 -- ---- all of them
 

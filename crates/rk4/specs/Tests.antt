@@ -6,24 +6,15 @@ use mathlib.Core.List.{List, [], _∷_, _++_}
 use lib.Dec.{leb, eqb}
 use lib.ListN.{length}
 use lib.Ieee.{Float}
-use lib.Ieee.Scale.{finite}
 use Rattle.error.specs.Tests.{Test, test}
 use Rattle.floats.specs.Finite.{positive}
 use Rattle.system.specs.System.{dim, matrix-fits}
-use Rattle.system.specs.Tests.{dimension-tests, matrix-tests, length-tests}
+use Rattle.system.specs.Tests.{dimension-tests, matrix-tests, length-tests, time-tests, step-size-tests}
 use Rattle.system.specs.declared.System.{System}
 
 -- 19: at most 16 directions, which fill their slice
 abbrev pub tangent-tests : System → List Float → ℕ → List Test
 tangent-tests S t n = test (leb n 16) 19 0 ∷ test (eqb (length t) (n * dim S)) 19 0 ∷ []
-
--- 6
-abbrev pub time-tests : Float → List Test
-time-tests time = test (finite time) 6 0 ∷ []
-
--- 2
-abbrev pub step-size-tests : Float → List Test
-step-size-tests h = test (positive h) 2 0 ∷ []
 
 -- 7, 8, 9, 10, 19, 6, 2: of the state x and n directions in t, at a time, with the step size h
 abbrev pub step-tests : System → List Float → Float → List Float → List Float → ℕ → Float → List Test

@@ -4,7 +4,7 @@ ghost use Prim.Native.Nat.{_≤_};
 ghost use Rattle.error.specs.Refusal.{reported};
 ghost use Rattle.error.specs.Tests.{first-failing};
 ghost use Rattle.system.specs.System.{dim};
-ghost use Rattle.rk4.specs.Tests.{tangent-tests, time-tests, step-size-tests, step-tests};
+ghost use Rattle.rk4.specs.Tests.{tangent-tests, step-tests};
 use error::LyapunovError;
 use error::Outcome;
 use system::System;
@@ -19,23 +19,6 @@ fn validate_tangents(system: System, tangents: &[f64], count: usize) -> Outcome
     }
     let filled = tangents.len() == count * system::dimension(system);
     error::test(filled, LyapunovError::TangentMismatch)
-}
-
-// Test 6.
-pub fn validate_time(time: f64) -> Outcome
-    ensures { λ r. ⌜ reported r ≡ first-failing (time-tests time) ⌝ }
-{
-    error::test(floats::is_finite(time), LyapunovError::InvalidInitialTime)
-}
-
-// Test 2.
-pub fn validate_step_size(step_size: f64) -> Outcome
-    ensures { λ r. ⌜ reported r ≡ first-failing (step-size-tests «step_size») ⌝ }
-{
-    error::test(
-        floats::is_positive(step_size),
-        LyapunovError::InvalidStepSize,
-    )
 }
 
 // The tests 7, 8, 9, 10, 19, 6, 2, in this order. They are made at each step, so the first refusal returns: to make all of
@@ -63,8 +46,8 @@ pub fn validate_step_inputs(
     if let Outcome::Refused(e) = validate_tangents(system, tangents, tangent_count) {
         return Outcome::Refused(e);
     }
-    if let Outcome::Refused(e) = validate_time(time) {
+    if let Outcome::Refused(e) = system::validation::validate_time(time) {
         return Outcome::Refused(e);
     }
-    validate_step_size(step_size)
+    system::validation::validate_step_size(step_size)
 }

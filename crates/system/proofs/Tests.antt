@@ -1,4 +1,4 @@
--- What is known of a system and of what is lent beside it once a block of tests is passed.
+-- What is known once a block of tests is passed.
 use Prim.Native.Nat.{_≤_, _<_}
 use mathlib.Core.Path.{_≡_}
 use mathlib.Core.Bool.{true}
@@ -7,10 +7,12 @@ use mathlib.Core.Option.{none}
 use borrow.Author.Tests.{ltb-true, leb-true, eqb-true}
 use lib.ListN.{length}
 use lib.Ieee.{Float}
+use lib.Ieee.Scale.{finite}
 use Rattle.error.specs.Tests.{first-failing}
+use Rattle.floats.specs.Finite.{positive}
 use Rattle.error.proofs.Tests.{passed}
 use Rattle.system.specs.System.{dim, matrix-fits}
-use Rattle.system.specs.Tests.{dimension-tests, matrix-tests, length-tests}
+use Rattle.system.specs.Tests.{dimension-tests, matrix-tests, length-tests, time-tests, step-size-tests}
 use Rattle.system.specs.declared.System.{System}
 
 module _ (S : System) where
@@ -22,3 +24,9 @@ module _ (S : System) where
 
   pub length-passed : (x : List Float) → none ≡ first-failing (length-tests S x) → length x ≡ dim S
   length-passed x e = eqb-true _ _ (passed _ _ e .0)
+
+pub time-passed : (time : Float) → none ≡ first-failing (time-tests time) → finite time ≡ true
+time-passed time e = passed _ _ e .0
+
+pub step-size-passed : (h : Float) → none ≡ first-failing (step-size-tests h) → positive h ≡ true
+step-size-passed h e = passed _ _ e .0

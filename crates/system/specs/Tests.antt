@@ -1,9 +1,11 @@
--- The tests of a system and of what is lent beside it, a block for each. Definitions only.
+-- The tests of a system, of what is lent beside it, and of the time and size of a step, a block for each. Definitions only.
 use mathlib.Core.List.{List, [], _∷_}
 use lib.Dec.{ltb, leb, eqb}
 use lib.ListN.{length}
 use lib.Ieee.{Float}
+use lib.Ieee.Scale.{finite}
 use Rattle.error.specs.Tests.{Test, test}
+use Rattle.floats.specs.Finite.{positive}
 use Rattle.system.specs.System.{dim, matrix-fits}
 use Rattle.system.specs.declared.System.{System}
 
@@ -18,3 +20,11 @@ matrix-tests S m = test (matrix-fits S m) 9 0 ∷ []
 -- 10: the length of a state
 abbrev pub length-tests : System → List Float → List Test
 length-tests S x = test (eqb (length x) (dim S)) 10 0 ∷ []
+
+-- 6: the time
+abbrev pub time-tests : Float → List Test
+time-tests time = test (finite time) 6 0 ∷ []
+
+-- 2: the step size
+abbrev pub step-size-tests : Float → List Test
+step-size-tests h = test (positive h) 2 0 ∷ []

@@ -1,8 +1,9 @@
-// The tests of a system and of what is lent beside it, a function for each block of specs/Tests.antt.
+// The tests of a system, of what is lent beside it, and of the time and size of a step: a function for each block of
+// specs/Tests.antt.
 ghost use mathlib.Core.Path.{_≡_};
 ghost use Rattle.error.specs.Refusal.{reported};
 ghost use Rattle.error.specs.Tests.{first-failing};
-ghost use Rattle.system.specs.Tests.{dimension-tests, matrix-tests, length-tests};
+ghost use Rattle.system.specs.Tests.{dimension-tests, matrix-tests, length-tests, time-tests, step-size-tests};
 use crate::System;
 use error::LyapunovError;
 use error::Outcome;
@@ -34,5 +35,22 @@ pub fn validate_length(system: System, state: &[f64]) -> Outcome
     error::test(
         state.len() == crate::dimension(system),
         LyapunovError::StateMismatch,
+    )
+}
+
+// Test 6.
+pub fn validate_time(time: f64) -> Outcome
+    ensures { λ r. ⌜ reported r ≡ first-failing (time-tests time) ⌝ }
+{
+    error::test(floats::is_finite(time), LyapunovError::InvalidInitialTime)
+}
+
+// Test 2.
+pub fn validate_step_size(step_size: f64) -> Outcome
+    ensures { λ r. ⌜ reported r ≡ first-failing (step-size-tests «step_size») ⌝ }
+{
+    error::test(
+        floats::is_positive(step_size),
+        LyapunovError::InvalidStepSize,
     )
 }
