@@ -60,15 +60,16 @@ pub record SameLengths (H H′ : Held) : Type 0 where
 pub same-trans : {H H′ H″ : Held} → SameLengths H H′ → SameLengths H′ H″ → SameLengths H H″
 same-trans a b = record { state = b .state ∙ a .state; tangents = b .tangents ∙ a .tangents; norms = b .norms ∙ a .norms }
 
-pub fits-kept : {S : System} {m : List Float} {k a c a′ c′ : ℕ} {h : Float} {H H′ : Held} → Fits S m k h a c H → SameLengths H H′ → Bounded k a′ c′ (H′ .progress) → Fits S m k h a′ c′ H′
+pub fits-kept : {S : System} {m : List Float} {k n a c a′ c′ : ℕ} {h : Float} {H H′ : Held} → Fits S m k h n a c H → SameLengths H H′ → Bounded k a′ c′ (H′ .progress) → Fits S m k h n a′ c′ H′
 fits-kept F s b =
     let P = F .passed in
     record {
       passed = record { dimension-above = P .dimension-above; dimension-within = P .dimension-within; matrix = P .matrix; state = s .state ∙ P .state; count = P .count; step-size = P .step-size };
+      steps = F .steps;
       tangents = s .tangents ∙ F .tangents;
       norms = s .norms ∙ F .norms;
       bounded = b;
     }
 
-pub fits-up : {S : System} {m : List Float} {k a b c e : ℕ} {h : Float} {H : Held} → a ≤ b → c ≤ e → Fits S m k h a c H → Fits S m k h b e H
-fits-up x y F = record { passed = F .passed; tangents = F .tangents; norms = F .norms; bounded = bounded-up x y (F .bounded) }
+pub fits-up : {S : System} {m : List Float} {k n a b c e : ℕ} {h : Float} {H : Held} → a ≤ b → c ≤ e → Fits S m k h n a c H → Fits S m k h n b e H
+fits-up x y F = record { passed = F .passed; steps = F .steps; tangents = F .tangents; norms = F .norms; bounded = bounded-up x y (F .bounded) }

@@ -24,7 +24,7 @@ use Rattle.benettin.specs.Run.{Generator, draws, generator-after, drawn-directi
 use Rattle.benettin.specs.Estimate.{dynamics, splitmix64}
 use Rattle.benettin.proofs.Prefix.{draws-length, take-replicate}
 use Rattle.estimator.specs.Progress.{held, run-state, totals, status, fresh}
-use Rattle.estimator.specs.UnderWay.{Begun}
+use Rattle.estimator.specs.UnderWay.{Begins, Begun}
 use Rattle.estimator.specs.declared.progress.Progress.{Progress}
 use Rattle.estimator.proofs.Basis.{reorthonormalised}
 use Rattle.estimator.proofs.Bounds.{bounded-fresh}
@@ -70,28 +70,25 @@ draws-iteration xs n i s s′ x h e a b = draws-next splitmix64 xs n i s h e ∙
 -- ---- the begin
 
 -- what the orthonormalisation of the drawn directions told
-pub record Drawn (k : ℕ) (time : Float) (seed : ℕ) (x norms : List Float) (r : Outcome) (t′ norms′ : List Float) : Type 0 where
-  pub above : 0 < length x
-  pub few : k ≤ 16
-  pub norms-many : length norms ≡ 32
-  pub clock : finite time ≡ true
-  pub told : observed r t′ norms′ ≡ orthonormalised euclidean (draws splitmix64 (k * length x) seed) (length x) norms
+pub record Drawn (k n : ℕ) (time : Float) (seed : ℕ) (x t norms : List Float) (r : Outcome) (t′ norms′ : List Float) : Type 0 where
+  pub begins : Begins k n time x t norms
+  pub told : observed r t′ norms′ ≡ orthonormalised euclidean (draws splitmix64 (length t) seed) (length x) norms
 
-module _ {k : ℕ} {time : Float} {seed : ℕ} {x norms : List Float} {r : Outcome} {t′ norms′ : List Float} (I : Drawn k time seed x norms r t′ norms′) (h : Float) (n : ℕ) where
+module _ {k n : ℕ} {time : Float} {seed : ℕ} {x t norms : List Float} {r : Outcome} {t′ norms′ : List Float} (I : Drawn k n time seed x t norms r t′ norms′) (h : Float) where
   -- by how the orthonormalisation ended
   basis-is : (S : System) (m : List Float) → length x ≡ dim S
       → status (dim S) k (held x t′ norms′ (fresh r time)) ≡ reorthonormalise (dynamics S m h n) (initial splitmix64 (dim S) x time seed k)
   unfolding initial dynamics
   basis-is S m d =
       let T = draws splitmix64 (k * dim S) seed in
-      let e : observed r t′ norms′ ≡ orthonormalised euclidean T (dim S) norms = I .told ∙ rw d in
-      reorthonormalised (dim S) k T norms (omega (arith, I .above)) (I .few) (draws-length splitmix64 (k * dim S) seed) (I .norms-many) r t′ norms′ e (dynamics S m h n) refl x time 0
+      let e : observed r t′ norms′ ≡ orthonormalised euclidean T (dim S) norms = I .told ∙ rw (I .begins .tangents, d) in
+      reorthonormalised (dim S) k T norms (omega (arith, I .begins .above)) (I .begins .few) (draws-length splitmix64 (k * dim S) seed) (I .begins .norms) r t′ norms′ e (dynamics S m h n) refl x time 0
       (record { logs = []; reports = [] }) (totals k (fresh r time))
-      ∙ rw (drawn-are splitmix64 (dim S) k seed, take-replicate zero⁺ k 16 (I .few), take-replicate {A = ℕ} 0 k 16 (I .few))
+      ∙ rw (drawn-are splitmix64 (dim S) k seed, take-replicate zero⁺ k 16 (I .begins .few), take-replicate {A = ℕ} 0 k 16 (I .begins .few))
 
   pub begun-14 : {ε : LyapunovError} {p : Progress} → p ≡ fresh (Refused ε) time → r ≡ Refused ε → Begun k h n time seed (held x t′ norms′ p)
   unfolding begin _then_
-  begun-14 {ε} g f = record { status = λ S m d. rw (g, ← basis-is S m d, f); bounded = rw g (bounded-fresh (Refused ε) (I .clock)) }
+  begun-14 {ε} g f = record { status = λ S m d. rw (g, ← basis-is S m d, f); bounded = rw g (bounded-fresh (Refused ε) (I .begins .clock)) }
 
   module _ (f : r ≡ Accepted) (u : Float) (ν : u ≡ h ⊗ as-float n) where
     begun-by : (S : System) (m : List Float) → length x ≡ dim S
@@ -103,10 +100,10 @@ module _ {k : ℕ} {time : Float} {seed : ℕ} {x norms : List Float} {r : Outco
     unfolding check-duration dynamics
     begun-15 g b =
         let b′ : finite (h ⊗ as-float n) ≡ false = rw ν at b in
-        record { status = λ S m d. rw (g, begun-by S m d, b′); bounded = rw g (bounded-fresh (Refused InvalidWindowDuration) (I .clock)) }
+        record { status = λ S m d. rw (g, begun-by S m d, b′); bounded = rw g (bounded-fresh (Refused InvalidWindowDuration) (I .begins .clock)) }
 
     pub begun : {p : Progress} → p ≡ fresh Accepted time → finite u ≡ true → Begun k h n time seed (held x t′ norms′ p)
     unfolding check-duration dynamics
     begun g b =
         let b′ : finite (h ⊗ as-float n) ≡ true = rw ν at b in
-        record { status = λ S m d. rw (g, begun-by S m d, b′); bounded = rw g (bounded-fresh Accepted (I .clock)) }
+        record { status = λ S m d. rw (g, begun-by S m d, b′); bounded = rw g (bounded-fresh Accepted (I .begins .clock)) }

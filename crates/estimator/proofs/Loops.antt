@@ -32,11 +32,11 @@ same-refl H = record { state = refl; tangents = refl; norms = refl }
 pub record Warming (S : System) (m : List Float) (k : ℕ) (h : Float) (n W : ℕ) (H₀ : Held) (w : ℕ) (H : Held) : Type 0 where
   pub few : w ≤ W
   pub kept : SameLengths H₀ H
-  pub fits : Fits S m k h (limit + w) limit H
+  pub fits : Fits S m k h n (limit + w) limit H
   pub bounded : Unmeasured k w H₀ H
   pub rest : (status (dim S) k H then warm-up (dynamics S m h n) n (W - w)) ≡ (status (dim S) k H₀ then warm-up (dynamics S m h n) n W)
 
-pub warming-start : {S : System} {m : List Float} {k : ℕ} {h : Float} {n W : ℕ} {H : Held} → Fits S m k h limit limit H → Warming S m k h n W H 0 H
+pub warming-start : {S : System} {m : List Float} {k : ℕ} {h : Float} {n W : ℕ} {H : Held} → Fits S m k h n limit limit H → Warming S m k h n W H 0 H
 warming-start {H = H} F =
     record { few = omega arith; kept = same-refl H; fits = fits-up (omega arith) (omega arith) F; bounded = λ a c x. bounded-up (omega arith) (omega arith) x; rest = rw sub-zero }
 
@@ -89,11 +89,11 @@ pub record Measuring (S : System) (m : List Float) (k : ℕ) (h : Float) (n W : 
   pub kept : SameLengths H₀ H
   pub rows-kept : length rows ≡ length rows₀
   pub place : a ≡ w * (1 + 2 * k)
-  pub fits : Fits S m k h (limit + limit + w) (limit + w) H
+  pub fits : Fits S m k h n (limit + limit + w) (limit + w) H
   pub bounded : AllMeasured k w H₀ H
   pub rest : written rows a (measured-from (dynamics S m h n) n (W - w) (status (dim S) k H)) ≡ written rows₀ 0 (measured-from (dynamics S m h n) n W (status (dim S) k H₀))
 
-pub measuring-start : {S : System} {m : List Float} {k : ℕ} {h : Float} {n W : ℕ} {H : Held} (rows : List Float) → Fits S m k h (limit + limit) limit H → Measuring S m k h n W H rows 0 0 H rows
+pub measuring-start : {S : System} {m : List Float} {k : ℕ} {h : Float} {n W : ℕ} {H : Held} (rows : List Float) → Fits S m k h n (limit + limit) limit H → Measuring S m k h n W H rows 0 0 H rows
 measuring-start {H = H} rows F =
     record {
       few = omega arith;

@@ -42,7 +42,7 @@ module _ (M : Dynamics) (n : ℕ) (c : RunState) (v : Outcome) (e : RunState) wh
   window-ok b f s g = rw (s, ← g, f)
 
 -- the steps came to a, the state x′ and the directions t
-module _ {S : System} {m : List Float} {k : ℕ} {h : Float} {H : Held} {n : ℕ} {a : Advance} {x′ t : List Float} (F : Fits S m k h most most H) (g : n ≤ limit)
+module _ {S : System} {m : List Float} {k : ℕ} {h : Float} {H : Held} {n : ℕ} {a : Advance} {x′ t : List Float} (F : Fits S m k h n most most H)
     (A : Advanced S m k h n (H .progress .time) (H .state) (H .tangents) a x′ t) where
   abbrev M : Dynamics
   M = dynamics S m h n
@@ -54,7 +54,7 @@ module _ {S : System} {m : List Float} {k : ℕ} {h : Float} {H : Held} {n : ℕ
   made v = after-steps p v (a .time) (a .steps)
 
   made-few : a .steps ≤ limit
-  made-few = omega (arith, A .few)
+  made-few = omega (arith, A .few, F .steps)
 
   pub steps-refused : (q : Progress) (ε : LyapunovError) → q ≡ made (a .outcome) → a .outcome ≡ Refused ε → Windowed S m k h n H (held x′ t (H .norms) q)
   steps-refused q ε e v =

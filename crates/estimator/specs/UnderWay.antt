@@ -1,5 +1,5 @@
 -- What the contracts of a run under way say, by name. A reader may skip it. Definitions only.
-use Prim.Native.Nat.{ℕ, _+_, _*_, _≤_}
+use Prim.Native.Nat.{ℕ, _+_, _*_, _≤_, _<_}
 use mathlib.Core.Path.{_≡_}
 use mathlib.Core.Bool.{true}
 use mathlib.Core.List.{List}
@@ -35,12 +35,31 @@ pub record Bounded (k made measured : ℕ) (p : Progress) : Type 0 where
 abbrev pub most : ℕ
 most = 4 * limit
 
--- what fits together: what passed the tests, the slices' lengths, and what bounds the progress
-pub record Fits (S : System) (m : List Float) (k : ℕ) (h : Float) (made measured : ℕ) (H : Held) : Type 0 where
+-- what fits together, for windows of n steps: what passed the tests, the slices' lengths, and what bounds the progress
+pub record Fits (S : System) (m : List Float) (k : ℕ) (h : Float) (n made measured : ℕ) (H : Held) : Type 0 where
   pub passed : Passed S m (H .state) k h
+  pub steps : n ≤ limit
   pub tangents : length (H .tangents) ≡ k * dim S
   pub norms : length (H .norms) ≡ 32
   pub bounded : Bounded k made measured (H .progress)
+
+-- what a run begins with: a state, room for k directions of as many entries, and for their numbers
+pub record Begins (k n : ℕ) (time : Float) (x t ns : List Float) : Type 0 where
+  pub above : 0 < length x
+  pub few : k ≤ 16
+  pub steps : n ≤ limit
+  pub tangents : length t ≡ k * length x
+  pub norms : length ns ≡ 32
+  pub clock : finite time ≡ true
+
+-- what a run ends with: w windows of n steps, and room for k exponents and the state
+pub record Ends (k n w : ℕ) (x es fs : List Float) (p : Progress) : Type 0 where
+  pub few : k ≤ 16
+  pub steps : n ≤ limit
+  pub windows : w ≤ limit
+  pub exponents : k ≤ length es
+  pub state : length x ≤ length fs
+  pub bounded : Bounded k most most p
 
 -- ---- what is told
 

@@ -22,7 +22,7 @@ pub fn warm_up(
     windows: u64,
     from: Progress,
 ) -> Progress
-    requires { ⌜ Under.Fits system (now matrix) k h limit limit (held (now state) (now tangents) (now norms) from) × (n ≤ limit) × (windows ≤ limit) ⌝ }
+    requires { ⌜ Under.Fits system (now matrix) k h n limit limit (held (now state) (now tangents) (now norms) from) × (windows ≤ limit) ⌝ }
     ensures { λ r. ⌜ Under.WarmedUp system (now (matrix .entry)) k h n windows (held (now (state .entry)) (now (tangents .entry)) (now (norms .entry)) from)
         (held (now (state .exit)) (now (tangents .exit)) (now (norms .exit)) r) ⌝ }
 {
@@ -53,7 +53,7 @@ pub fn measure(
     windows: u64,
     from: Progress,
 ) -> Progress
-    requires { ⌜ Under.Fits system (now matrix) k h (limit + limit) limit (held (now state) (now tangents) (now norms) from) × (n ≤ limit) × (windows ≤ limit)
+    requires { ⌜ Under.Fits system (now matrix) k h n (limit + limit) limit (held (now state) (now tangents) (now norms) from) × (windows ≤ limit)
         × (windows * (1 + 2 * k) ≤ length (now rows)) ⌝ }
     ensures { λ r. ⌜ Under.MeasuredWindows system (now (matrix .entry)) k h n windows (held (now (state .entry)) (now (tangents .entry)) (now (norms .entry)) from) (now (rows .entry))
         (held (now (state .exit)) (now (tangents .exit)) (now (norms .exit)) r) (now (rows .exit)) ⌝ }

@@ -4,14 +4,11 @@
 // tests and how long the slices are. What a run carries lies in a `Progress` and in three slices: the state, the directions
 // one after the other, and their logarithms and squared lengths. specs/Progress.antt says which state of a run that stands
 // for, specs/UnderWay.antt what each function leaves.
-ghost use Prim.Native.Nat.{_*_, _≤_, _<_, _+_};
+ghost use Prim.Native.Nat.{_*_, _+_};
 ghost use mathlib.Core.Path.{_≡_};
-ghost use mathlib.Core.Bool.{true};
 ghost use lib.ListN.{length};
-ghost use lib.Ieee.Scale.{finite};
 ghost use Rattle.floats.specs.Arithmetic.{_⊗_};
 ghost use Rattle.benettin.specs.Run as Run;
-ghost use Rattle.benettin.specs.Estimate.{limit};
 ghost use Rattle.estimator.specs.Progress.{held};
 ghost use Rattle.estimator.specs.UnderWay as Under;
 use benettin::SpectrumEstimate;
@@ -40,7 +37,7 @@ pub fn begin(
     time: f64,
     seed: u64,
 ) -> Progress
-    requires { ⌜ (0 < length (now state)) × (k ≤ 16) × (length (now tangents) ≡ k * length (now state)) × (length (now norms) ≡ 32) × (n ≤ limit) × (finite time ≡ true) ⌝ }
+    requires { ⌜ Under.Begins k n time (now state) (now tangents) (now norms) ⌝ }
     ensures { λ r. ⌜ Under.Begun k h n time seed (held (now (state .entry)) (now (tangents .exit)) (now (norms .exit)) r) ⌝ }
 {
     if let Outcome::Refused(e) = crate::initialize_basis(tangents, state.len(), norms, seed) {
@@ -65,7 +62,7 @@ pub fn window(
     n: u64,
     from: Progress,
 ) -> Progress
-    requires { ⌜ Under.Fits system (now matrix) k h Under.most Under.most (held (now state) (now tangents) (now norms) from) × (n ≤ limit) ⌝ }
+    requires { ⌜ Under.Fits system (now matrix) k h n Under.most Under.most (held (now state) (now tangents) (now norms) from) ⌝ }
     ensures { λ r. ⌜ Under.Windowed system (now (matrix .entry)) k h n (held (now (state .entry)) (now (tangents .entry)) (now (norms .entry)) from)
         (held (now (state .exit)) (now (tangents .exit)) (now (norms .exit)) r) ⌝ }
 {
@@ -96,7 +93,7 @@ pub fn measured_window(
     n: u64,
     from: Progress,
 ) -> Progress
-    requires { ⌜ Under.Fits system (now matrix) k h Under.most Under.most (held (now state) (now tangents) (now norms) from) × (n ≤ limit) × (length (now row) ≡ 1 + 2 * k) ⌝ }
+    requires { ⌜ Under.Fits system (now matrix) k h n Under.most Under.most (held (now state) (now tangents) (now norms) from) × (length (now row) ≡ 1 + 2 * k) ⌝ }
     ensures { λ r. ⌜ Under.MeasuredWindow system (now (matrix .entry)) k h n (held (now (state .entry)) (now (tangents .entry)) (now (norms .entry)) from) (now (row .entry))
         (held (now (state .exit)) (now (tangents .exit)) (now (norms .exit)) r) (now (row .exit)) ⌝ }
 {
@@ -123,7 +120,7 @@ pub fn end(
     windows: u64,
     done: Progress,
 ) -> SpectrumEstimate
-    requires { ⌜ Under.Bounded k Under.most Under.most done × (k ≤ 16) × (k ≤ length (now exponents)) × (length (now state) ≤ length (now «final_state»)) × (n ≤ limit) × (windows ≤ limit) ⌝ }
+    requires { ⌜ Under.Ends k n windows (now state) (now exponents) (now «final_state») done ⌝ }
     ensures { λ r. ⌜ (Under.Ended k (h ⊗ Run.as-float n) windows (now (state .entry)) done (now (exponents .entry)) (now («final_state» .entry)) r (now (exponents .exit)) (now («final_state» .exit))) ⌝ }
 {
     let v = done.outcome;

@@ -26,7 +26,7 @@ start c = c .before .before .before .before .before .before .before
 
 -- the row of a window that is yet to be made is within the slice
 room : (c : tie.In-loop Inv-loop μ-loop) → c .before .loop .a + (1 + 2 * start c .args .k) ≤ length (c .before .loop .rows)
-room c = row-room (c .before .loop .inv) (c .loop-test .taken) (start c .pre .3)
+room c = row-room (c .before .loop .inv) (c .loop-test .taken) (start c .pre .2)
 
 mul-width : tie.Need-mul-width Inv-loop μ-loop
 mul-width c = omega (arith, c .before .before .before .before .before .pre .0 .passed .count)
@@ -81,7 +81,7 @@ measured-window-requires c κs =
     let f = iteration (c .before .before .before .before) in
     let I = f .before .loop .inv in
     let p = start f .pre in
-    (fits-up (omega (arith, I .few, p .2)) (omega (arith, I .few, p .2)) (I .fits), omega (arith, p .1), part-many (f .before .loop .rows) (f .before .loop .a) (1 + 2 * start f .args .k) (room f))
+    (fits-up (omega (arith, I .few, p .1)) (omega (arith, I .few, p .1)) (I .fits), part-many (f .before .loop .rows) (f .before .loop .a) (1 + 2 * start f .args .k) (room f))
 
 add-w : tie.Need-add-w Inv-loop μ-loop
 add-w c = search needs

@@ -38,19 +38,20 @@ input-of c = let a = c .args in input (a .system) (a .matrix .now) (a .time) (a 
 
 -- what fits before the warm-up, and before the measured windows
 before-warm-up : (c : tie.After-begin)
-    → (let a = start c .args in Fits (a .system) (a .matrix .now) (a .config .«top_k») (a .config .«step_size») 0 0 (held (a .state .now) (c .begin .last .1 .0) (c .begin .last .1 .1 .0) (c .begin .result)))
+    → (let a = start c .args in Fits (a .system) (a .matrix .now) (a .config .«top_k») (a .config .«step_size») (a .config .«steps_per_window») 0 0 (held (a .state .now) (c .begin .last .1 .0) (c .begin .last .1 .1 .0) (c .begin .result)))
 before-warm-up c =
     let s = start c in
     let p = s .pre .0 .step in
     record {
       passed = p;
+      steps = s .pre .0 .steps-limit;
       tangents = c .begin .kept .1 .0 ∙ s .pre .1 ∙ ap (λ (d : ℕ). s .args .config .«top_k» * d) (p .state);
       norms = c .begin .kept .1 .1 .0;
       bounded = c .begin .ensures .bounded;
     }
 
 before-measured : (c : tie.After-warm-up)
-    → (let a = start (begun c) .args in let l = c .warm-up .last .1 .1 in Fits (a .system) (a .matrix .now) (a .config .«top_k») (a .config .«step_size») (limit + limit) limit (held (l .0) (l .1 .0) (l .1 .1 .0) (c .warm-up .result)))
+    → (let a = start (begun c) .args in let l = c .warm-up .last .1 .1 in Fits (a .system) (a .matrix .now) (a .config .«top_k») (a .config .«step_size») (a .config .«steps_per_window») (limit + limit) limit (held (l .0) (l .1 .0) (l .1 .1 .0) (c .warm-up .result)))
 before-measured c =
     let F = before-warm-up (begun c) in
     let k = c .warm-up .kept .1 .1 in
@@ -70,7 +71,7 @@ warm-up-requires : tie.Need-warm-up-requires
 warm-up-requires c κs =
     let b = c .before .before .before .before .before .before in
     let r = start b .pre .0 in
-    (fits-up (omega arith) (omega arith) (before-warm-up b), r .steps-limit, r .warm-up-limit)
+    (fits-up (omega arith) (omega arith) (before-warm-up b), r .warm-up-limit)
 
 slice-aggregate-measure : tie.Need-slice-aggregate-measure
 slice-aggregate-measure c = search needs
@@ -79,21 +80,22 @@ measure-requires : tie.Need-measure-requires
 measure-requires c κs =
     let w = ready c in
     let r = start (begun w) .pre .0 in
-    (before-measured w, r .steps-limit, r .windows-limit, r .rows)
+    (before-measured w, r .windows-limit, r .rows)
 
 end-requires : tie.Need-end-requires
 end-requires c κs =
     let m = measured c in
     let w = ready (m .before) in
     let F = before-measured w in
-    let r = start (begun w) .pre .0 in (
-      bounded-up (omega (arith, r .windows-limit)) (omega (arith, r .windows-limit)) (m .measure .ensures .bounded (limit + limit) limit (F .bounded)),
-      r .step .count,
-      r .exponents,
-      omega (arith, m .measure .kept .1 .1 .0, F .passed .state, r .state),
-      r .steps-limit,
-      r .windows-limit,
-    )
+    let r = start (begun w) .pre .0 in
+    record {
+      few = r .step .count;
+      steps = r .steps-limit;
+      windows = r .windows-limit;
+      exponents = r .exponents;
+      state = omega (arith, m .measure .kept .1 .1 .0, F .passed .state, r .state);
+      bounded = bounded-up (omega (arith, r .windows-limit)) (omega (arith, r .windows-limit)) (m .measure .ensures .bounded (limit + limit) limit (F .bounded));
+    }
 
 same-length : tie.Need-same-length
 same-length c = let m = measured (c .before .before .before .before .before) in m .measure .kept .1 .1 .0 ∙ ready (m .before) .warm-up .kept .1 .1 .0

@@ -1,11 +1,6 @@
 -- `estimator::progress::begin` meets its contract.
 use borrow.Author.Needs.{needs}
-use mathlib.Core.Path.{sym, ap, _∙_}
-use Prim.Native.Nat.{ℕ}
-use lib.ListN.{length}
-use Rattle.benettin.specs.Run.{draws}
-use Rattle.benettin.specs.Estimate.{splitmix64}
-use Rattle.gram_schmidt.specs.GramSchmidt.{euclidean, orthonormalised}
+use mathlib.Core.Path.{sym, _∙_}
 use Rattle.estimator.proofs.Draws.{Drawn, begun-14, begun-15, begun}
 use Rattle.estimator.proofs.progress.begin.Statement.{statement}
 use Rattle.estimator.proofs.progress.begin.Tie as tie
@@ -18,17 +13,8 @@ abbrev drawn : tie.After-duration → tie.After-initialize-basis
 drawn c = c .before .before .before .before .before .before .before
 
 told : (c : tie.After-initialize-basis)
-    → (let a = start c .args in let g = c .initialize-basis in Drawn (a .k) (a .time) (a .seed) (a .state .now) (a .norms .now) (g .result) (g .last .0) (g .last .1 .1 .0))
-told c =
-    let a = start c .args in
-    let p = start c .pre in
-    record {
-      above = p .0;
-      few = p .1;
-      norms-many = p .3;
-      clock = p .5;
-      told = c .initialize-basis .ensures ∙ ap (λ (j : ℕ). orthonormalised euclidean (draws splitmix64 j (a .seed)) (length (a .state .now)) (a .norms .now)) (p .2);
-    }
+    → (let a = start c .args in let g = c .initialize-basis in Drawn (a .k) (a .n) (a .time) (a .seed) (a .state .now) (a .tangents .now) (a .norms .now) (g .result) (g .last .0) (g .last .1 .1 .0))
+told c = record { begins = start c .pre; told = c .initialize-basis .ensures }
 
 initialize-basis-requires : tie.Need-initialize-basis-requires
 initialize-basis-requires c κs = search needs
@@ -48,7 +34,7 @@ same-length-2 c = search needs
 returns : tie.Need-returns
 returns c =
     let b = c .before .before .before .before .before .before .before .before in
-    begun-14 (told b) (start b .args .h) (start b .args .n) (c .fresh .ensures) (c .before .before .e .given .1)
+    begun-14 (told b) (start b .args .h) (c .fresh .ensures) (c .before .before .e .given .1)
 
 enum-told : tie.Need-enum-told
 enum-told c = search needs
@@ -75,7 +61,7 @@ returns-2 : tie.Need-returns-2
 returns-2 c =
     let u = c .before .before .before in
     let b = drawn u in
-    begun (told b) (start b .args .h) (start b .args .n) (u .before .enum-told .given .1) (u .duration .result) (u .duration .ensures) (c .fresh2 .ensures) (sym (c .before .before .is-finite .ensures) ∙ c .before .if1 .taken)
+    begun (told b) (start b .args .h) (u .before .enum-told .given .1) (u .duration .result) (u .duration .ensures) (c .fresh2 .ensures) (sym (c .before .before .is-finite .ensures) ∙ c .before .if1 .taken)
 
 same-length-5 : tie.Need-same-length-5
 same-length-5 c = search needs
@@ -87,7 +73,7 @@ returns-3 : tie.Need-returns-3
 returns-3 c =
     let u = c .before .before .before in
     let b = drawn u in
-    begun-15 (told b) (start b .args .h) (start b .args .n) (u .before .enum-told .given .1) (u .duration .result) (u .duration .ensures) (c .fresh3 .ensures) (sym (c .before .before .is-finite .ensures) ∙ c .before .if1 .left)
+    begun-15 (told b) (start b .args .h) (u .before .enum-told .given .1) (u .duration .result) (u .duration .ensures) (c .fresh3 .ensures) (sym (c .before .before .is-finite .ensures) ∙ c .before .if1 .left)
 
 pub begin-spec : {M : Type 1} → statement M
 begin-spec =

@@ -17,7 +17,7 @@ abbrev timed : tie.After-write-rates → tie.After-duration
 timed c = c .before .before .before .before .before
 
 sums-fit : (c : tie.Start) → c .args .k ≤ length (c .args .done .sums)
-sums-fit c = omega (arith, c .pre .1, c .pre .0 .sums)
+sums-fit c = omega (arith, c .pre .few, c .pre .bounded .sums)
 
 enum-known-v : tie.Need-enum-known-v
 enum-known-v c = search needs
@@ -28,8 +28,7 @@ refused-requires c κs = search needs
 returns : tie.Need-returns
 returns c =
     let s = c .before .before .before .before .before .before .before in
-    let a = s .args in
-    end-refused (s .pre .0) (s .pre .1) _ (a .windows) (a .state .now) (a .exponents .now) (a .final-state .now) _ (c .refused .result) (c .before .before .v .given .1) (c .refused .ensures)
+    end-refused (s .pre) _ _ (c .refused .result) (c .before .before .v .given .1) (c .refused .ensures)
 
 enum-told : tie.Need-enum-told
 enum-told c = search needs
@@ -44,7 +43,7 @@ slice-relend-prefix-write-rates : tie.Need-slice-relend-prefix-write-rates
 slice-relend-prefix-write-rates c = search needs
 
 slice-aggregate-write-rates : tie.Need-slice-aggregate-write-rates
-slice-aggregate-write-rates c = sym (length-take-le _ _ (start (c .before .before .before) .pre .2))
+slice-aggregate-write-rates c = sym (length-take-le _ _ (start (c .before .before .before) .pre .exponents))
 
 array-share-prefix-sums : tie.Need-array-share-prefix-sums
 array-share-prefix-sums c = search needs
@@ -53,16 +52,16 @@ slice-aggregate-write-rates-2 : tie.Need-slice-aggregate-write-rates-2
 slice-aggregate-write-rates-2 c = sym (length-take-le _ _ (sums-fit (start (c .before .before .before .before))))
 
 write-rates-requires : tie.Need-write-rates-requires
-write-rates-requires c κs = let s = start (c .before .before .before .before) in length-take-le _ _ (s .pre .2) ∙ sym (length-take-le _ _ (sums-fit s))
+write-rates-requires c κs = let s = start (c .before .before .before .before) in length-take-le _ _ (s .pre .exponents) ∙ sym (length-take-le _ _ (sums-fit s))
 
 slice-relend-prefix-copy-to : tie.Need-slice-relend-prefix-copy-to
 slice-relend-prefix-copy-to c = search needs
 
 slice-aggregate-copy-to : tie.Need-slice-aggregate-copy-to
-slice-aggregate-copy-to c = sym (length-take-le _ _ (start (timed (c .before .before .before)) .pre .3))
+slice-aggregate-copy-to c = sym (length-take-le _ _ (start (timed (c .before .before .before)) .pre .state))
 
 copy-to-requires : tie.Need-copy-to-requires
-copy-to-requires c κs = length-take-le _ _ (start (timed (c .before .before .before)) .pre .3)
+copy-to-requires c κs = length-take-le _ _ (start (timed (c .before .before .before)) .pre .state)
 
 same-length : tie.Need-same-length
 same-length c = search needs
@@ -76,9 +75,8 @@ returns-2 c =
     let b = c .before .before .before .before .before .before .before in
     let t = timed b in
     let s = start t in
-    let a = s .args in
-    end-done (s .pre .0) (s .pre .1) _ (a .windows) (a .state .now) (a .exponents .now) (a .final-state .now) (t .duration .result) (b .before .before .before .before .as-float .result) (b .write-rates .last .0) (y .last .0)
-    (t .before .enum-told .given .1) (t .duration .ensures) (b .before .before .before .before .as-float .ensures) (s .pre .2) (s .pre .3) (b .write-rates .ensures) (y .ensures)
+    end-done (s .pre) _ (t .duration .result) (b .before .before .before .before .as-float .result) (b .write-rates .last .0) (y .last .0)
+    (t .before .enum-told .given .1) (t .duration .ensures) (b .before .before .before .before .as-float .ensures) (b .write-rates .ensures) (y .ensures)
 
 pub end-spec : {M : Type 1} → statement M
 end-spec =

@@ -76,7 +76,7 @@ add-logs-requires c κs =
     (omega (arith, logs-many b, start b .pre .0 .passed .count), omega (arith, bounded b .windows), bounded b .sums)
 
 duration-requires : tie.Need-duration-requires
-duration-requires c κs = search needs
+duration-requires c κs = omega (arith, start (windowed (accepted c)) .pre .0 .steps)
 
 as-float-requires : tie.Need-as-float-requires
 as-float-requires c κs = let l = c .before in omega (arith, ap (λ (p : Progress). p .windows) (l .add-logs .ensures), bounded (windowed (accepted l)) .windows)
@@ -92,7 +92,7 @@ write-row-requires c κs =
     let l = c .before .before .before .before in
     let b = windowed (accepted l) in
     let e = logs-many b in
-    (start b .pre .2 ∙ rw e, rw e (start b .pre .0 .passed .count), totals l)
+    (start b .pre .1 ∙ rw e, rw e (start b .pre .0 .passed .count), totals l)
 
 same-length-4 : tie.Need-same-length-4
 same-length-4 c = search needs

@@ -46,7 +46,7 @@ returns : tie.Need-returns
 returns c =
     let b = c .before .before .before .before .before .before .before in
     let s = start b in
-    steps-refused (s .pre .0) (s .pre .1) (b .advance-steps .ensures) (c .after-steps .result) _ (c .after-steps .ensures) (c .before .enum-told2 .given .1)
+    steps-refused (s .pre) (b .advance-steps .ensures) (c .after-steps .result) _ (c .after-steps .ensures) (c .before .enum-told2 .given .1)
 
 modified-gram-schmidt-requires : tie.Need-modified-gram-schmidt-requires
 modified-gram-schmidt-requires c κs = search needs
@@ -78,13 +78,13 @@ returns-2 c =
     let s = start b in
     let a = b .advance-steps in
     let o = g .modified-gram-schmidt in
-    basis-collapsed (s .pre .0) (s .pre .1) (a .ensures) (e .enum-told .given .1) (o .result) _ _ (a .kept .1 .1 .1 .0) (a .kept .1 .1 .0) (o .ensures) (q .after-steps2 .result) _ (q .after-steps2 .ensures) (c .enum-told4 .given .1)
+    basis-collapsed (s .pre) (a .ensures) (e .enum-told .given .1) (o .result) _ _ (a .kept .1 .1 .1 .0) (a .kept .1 .1 .0) (o .ensures) (q .after-steps2 .result) _ (q .after-steps2 .ensures) (c .enum-told4 .given .1)
 
 add-e : tie.Need-add-e
-add-e c = omega (arith, first (c .before .before) .pre .0 .passed .count)
+add-e c = omega (arith, first (c .before .before) .pre .passed .count)
 
 mul-count-faint : tie.Need-mul-count-faint
-mul-count-faint c = omega (arith, first (c .before .before) .pre .0 .passed .count)
+mul-count-faint c = omega (arith, first (c .before .before) .pre .passed .count)
 
 sub-count-faint : tie.Need-sub-count-faint
 sub-count-faint c = search needs
@@ -95,13 +95,13 @@ part-count-faint-start c = search needs
 part-count-faint-end : tie.Need-part-count-faint-end
 part-count-faint-end c =
     let q = c .before .before .before in
-    let F = first q .pre .0 in
+    let F = first q .pre in
     omega (arith, F .passed .count, F .norms, orthonormalised q .modified-gram-schmidt .kept .1 .1 .0)
 
 count-faint-requires : tie.Need-count-faint-requires
 count-faint-requires c κs =
     let q = c .before .before .before .before in
-    let F = first q .pre .0 in
+    let F = first q .pre in
     let e = q .after-steps2 .ensures in
     (rw length-take (omega (arith, F .passed .count)), λ i. rw e (omega (arith, F .bounded .faint i)), ap (λ (p : Progress). length (p .faint)) e ∙ F .bounded .counts)
 
@@ -123,7 +123,7 @@ returns-3 c =
     let s = start b in
     let a = b .advance-steps in
     let o = g .modified-gram-schmidt in
-    window-done (s .pre .0) (s .pre .1) (a .ensures) (e .enum-told .given .1) (o .result) _ _ (a .kept .1 .1 .1 .0) (a .kept .1 .1 .0) (o .ensures) (q .after-steps2 .result) (c .count-faint .result) (q .after-steps2 .ensures)
+    window-done (s .pre) (a .ensures) (e .enum-told .given .1) (o .result) _ _ (a .kept .1 .1 .1 .0) (a .kept .1 .1 .0) (o .ensures) (q .after-steps2 .result) (c .count-faint .result) (q .after-steps2 .ensures)
     (c .before .before .before .enum-told3 .given .1) (c .count-faint .ensures)
 
 pub window-spec : {M : Type 1} → statement M
