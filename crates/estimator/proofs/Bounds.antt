@@ -71,5 +71,5 @@ fits-kept F s b =
       bounded = b;
     }
 
-pub fits-up : {S : System} {m : List Float} {k n a b c e : ℕ} {h : Float} {H : Held} → a ≤ b → c ≤ e → Fits S m k h n a c H → Fits S m k h n b e H
-fits-up x y F = record { passed = F .passed; steps = F .steps; tangents = F .tangents; norms = F .norms; bounded = bounded-up x y (F .bounded) }
+pub fits-up : {S : System} {m : List Float} {k n n′ a b c e : ℕ} {h : Float} {H : Held} → n′ ≤ limit → a ≤ b → c ≤ e → Fits S m k h n a c H → Fits S m k h n′ b e H
+fits-up z x y F = record { passed = F .passed; steps = z; tangents = F .tangents; norms = F .norms; bounded = bounded-up x y (F .bounded) }

@@ -38,7 +38,7 @@ pub record Warming (S : System) (m : List Float) (k : ℕ) (h : Float) (n W : �
 
 pub warming-start : {S : System} {m : List Float} {k : ℕ} {h : Float} {n W : ℕ} {H : Held} → Fits S m k h n limit limit H → Warming S m k h n W H 0 H
 warming-start {H = H} F =
-    record { few = omega arith; kept = same-refl H; fits = fits-up (omega arith) (omega arith) F; bounded = λ a c x. bounded-up (omega arith) (omega arith) x; rest = rw sub-zero }
+    record { few = omega arith; kept = same-refl H; fits = fits-up (F .steps) (omega arith) (omega arith) F; bounded = λ a c x. bounded-up (omega arith) (omega arith) x; rest = rw sub-zero }
 
 module _ {S : System} {m : List Float} {k : ℕ} {h : Float} {n W : ℕ} {H₀ H : Held} {w : ℕ} (I : Warming S m k h n W H₀ w H) where
   unmeasured-up : Unmeasured k W H₀ H
@@ -100,7 +100,7 @@ measuring-start {H = H} rows F =
       kept = same-refl H;
       rows-kept = refl;
       place = omega arith;
-      fits = fits-up (omega arith) (omega arith) F;
+      fits = fits-up (F .steps) (omega arith) (omega arith) F;
       bounded = λ a c x. bounded-up (omega arith) (omega arith) x;
       rest = rw sub-zero;
     }

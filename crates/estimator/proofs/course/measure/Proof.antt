@@ -81,7 +81,7 @@ measured-window-requires c κs =
     let f = iteration (c .before .before .before .before) in
     let I = f .before .loop .inv in
     let p = start f .pre in
-    (fits-up (omega (arith, I .few, p .1)) (omega (arith, I .few, p .1)) (I .fits), part-many (f .before .loop .rows) (f .before .loop .a) (1 + 2 * start f .args .k) (room f))
+    (fits-up (omega (arith, I .fits .steps)) (omega (arith, I .few, p .1)) (omega (arith, I .few, p .1)) (I .fits), part-many (f .before .loop .rows) (f .before .loop .a) (1 + 2 * start f .args .k) (room f))
 
 add-w : tie.Need-add-w Inv-loop μ-loop
 add-w c = search needs

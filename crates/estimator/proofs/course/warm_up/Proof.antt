@@ -47,7 +47,7 @@ window-requires c κs =
     let f = iteration (c .before .before .before) in
     let I = f .before .loop .inv in
     let p = start f .pre in
-    fits-up (omega (arith, I .few, p .1)) (omega arith) (I .fits)
+    fits-up (omega (arith, I .fits .steps, p .1)) (omega (arith, I .few, p .1)) (omega arith) (I .fits)
 
 add-w : tie.Need-add-w Inv-loop μ-loop
 add-w c = search needs

@@ -71,7 +71,7 @@ warm-up-requires : tie.Need-warm-up-requires
 warm-up-requires c κs =
     let b = c .before .before .before .before .before .before in
     let r = start b .pre .0 in
-    (fits-up (omega arith) (omega arith) (before-warm-up b), r .warm-up-limit)
+    (fits-up (r .steps-limit) (omega arith) (omega arith) (before-warm-up b), r .warm-up-limit)
 
 slice-aggregate-measure : tie.Need-slice-aggregate-measure
 slice-aggregate-measure c = search needs
