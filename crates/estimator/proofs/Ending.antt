@@ -62,7 +62,7 @@ run-is i K {H₁} {H₂} {H₃} {rows} {rows′} es fs es′ fs′ r d s B U X E
     let c = initial splitmix64 (dim (i .system)) (i .state) (i .time) (i .seed) K in
     let T = course M (i .steps) (i .warm-up) (i .steps) (i .windows) c in
     let b : status (dim (i .system)) K H₁ ≡ begin M c = B .status (i .system) (i .matrix) (ap length s ∙ d) ∙ rw s in
-    let t : written rows 0 (measured-from M (i .steps) (i .windows) (status (dim (i .system)) K H₂)) ≡ written rows 0 T = rw (U .status, b) in
+    let t : written rows 0 (measured-from M (i .steps) (i .windows) (status (dim (i .system)) K H₂)) ≡ written rows 0 T = rw (U .status (i .steps), b) in
     let A : rows′ ≡ sets rows 0 (flat-rows (T .rows)) = ap (λ (y : Recorded). y .rows) (X .rows-left ∙ t) in
     let C : status (dim (i .system)) K H₃ ≡ T .end = ap (λ (y : Recorded). y .end) (X .rows-left ∙ t) in
     rw (A, ← C) (E M (dim (i .system)) (H₃ .tangents) (H₃ .norms) rows (T .rows) refl)

@@ -34,11 +34,11 @@ pub record Warming (S : System) (m : List Float) (k : ℕ) (h : Float) (n W : �
   pub kept : SameLengths H₀ H
   pub fits : Fits S m k h n (limit + w) limit H
   pub bounded : Unmeasured k w H₀ H
-  pub rest : (status (dim S) k H then warm-up (dynamics S m h n) n (W - w)) ≡ (status (dim S) k H₀ then warm-up (dynamics S m h n) n W)
+  pub rest : (D : ℕ) → (status (dim S) k H then warm-up (dynamics S m h D) n (W - w)) ≡ (status (dim S) k H₀ then warm-up (dynamics S m h D) n W)
 
 pub warming-start : {S : System} {m : List Float} {k : ℕ} {h : Float} {n W : ℕ} {H : Held} → Fits S m k h n limit limit H → Warming S m k h n W H 0 H
 warming-start {H = H} F =
-    record { few = omega arith; kept = same-refl H; fits = fits-up (F .steps) (omega arith) (omega arith) F; bounded = λ a c x. bounded-up (omega arith) (omega arith) x; rest = rw sub-zero }
+    record { few = omega arith; kept = same-refl H; fits = fits-up (F .steps) (omega arith) (omega arith) F; bounded = λ a c x. bounded-up (omega arith) (omega arith) x; rest = λ D. rw sub-zero }
 
 module _ {S : System} {m : List Float} {k : ℕ} {h : Float} {n W : ℕ} {H₀ H : Held} {w : ℕ} (I : Warming S m k h n W H₀ w H) where
   unmeasured-up : Unmeasured k W H₀ H
@@ -53,20 +53,20 @@ module _ {S : System} {m : List Float} {k : ℕ} {h : Float} {n W : ℕ} {H₀ H
         kept = same-trans (I .kept) s;
         fits = fits-kept (I .fits) s (bounded-up (omega arith) (omega arith) (X .bounded (limit + w) limit (I .fits .bounded)));
         bounded = λ a c x. bounded-up (omega arith) (omega arith) (X .bounded (a + w) c (I .bounded a c x));
-        rest = rw (X .status) (sym (rw (v, z)) ∙ I .rest);
+        rest = λ D. rw (X .status D) (sym (rw (v, z)) ∙ I .rest D);
       }
 
   pub warming-refused : (ε : LyapunovError) → H .progress .outcome ≡ Refused ε → WarmedUp S m k h n W H₀ H
   unfolding _then_
-  warming-refused ε v = record { status = sym (rw v) ∙ I .rest; bounded = unmeasured-up }
+  warming-refused ε v = record { status = λ D. sym (rw v) ∙ I .rest D; bounded = unmeasured-up }
 
   pub warming-end : W ≤ w → WarmedUp S m k h n W H₀ H
   unfolding warm-up _then_
-  warming-end l = record { status = sym (go (status (dim S) k H)) ∙ I .rest; bounded = unmeasured-up }
+  warming-end l = record { status = λ D. sym (go D (status (dim S) k H)) ∙ I .rest D; bounded = unmeasured-up }
     where
-      go : (o : Status) → (o then warm-up (dynamics S m h n) n (W - w)) ≡ o
-      go (ok c) = let z : W - w ≡ 0 = omega arith in rw z
-      go (refused r) = refl
+      go : (D : ℕ) (o : Status) → (o then warm-up (dynamics S m h D) n (W - w)) ≡ o
+      go D (ok c) = let z : W - w ≡ 0 = omega arith in rw z
+      go D (refused r) = refl
 
 -- ---- a row within the slice of rows
 

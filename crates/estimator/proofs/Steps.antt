@@ -45,9 +45,9 @@ tested-time none (some i) b c e h = let z : _≡_ {A = ℕ} 0 1 = cc in absurd (
 tested-time none none b c e h = refl
 
 -- from what the step told, of a run that holds N and T beside the slices and has made s steps
-module _ {S : System} {m x : List Float} {k : ℕ} {h : Float} (n : ℕ) (time : Float) (t : List Float) (P : Passed S m x k h) (l : length t ≡ k * dim S) (r : Outcome) (x′ t′ : List Float) (e : observed r x′ t′ ≡ advanced S m x t k h) (s : ℕ) (N : Norms) (T : Totals) where
+module _ {S : System} {m x : List Float} {k : ℕ} {h : Float} (D : ℕ) (time : Float) (t : List Float) (P : Passed S m x k h) (l : length t ≡ k * dim S) (r : Outcome) (x′ t′ : List Float) (e : observed r x′ t′ ≡ advanced S m x t k h) (s : ℕ) (N : Norms) (T : Totals) where
   abbrev M : Dynamics
-  M = dynamics S m h n
+  M = dynamics S m h D
 
   abbrev here : RunState
   here = joined (motion (dim S) k x t time s) N T
@@ -86,11 +86,11 @@ pub record Stepping (S : System) (m : List Float) (k : ℕ) (h : Float) (n : ℕ
   pub clock : finite time ≡ true
   pub state-kept : length x ≡ length x₀
   pub tangents-kept : length t ≡ length t₀
-  pub rest : (s : ℕ) (N : Norms) (T : Totals) → steps (dynamics S m h n) (n - i) (joined (motion (dim S) k x t time (s + i)) N T) ≡ steps (dynamics S m h n) n (joined (motion (dim S) k x₀ t₀ time₀ s) N T)
+  pub rest : (D s : ℕ) (N : Norms) (T : Totals) → steps (dynamics S m h D) (n - i) (joined (motion (dim S) k x t time (s + i)) N T) ≡ steps (dynamics S m h D) n (joined (motion (dim S) k x₀ t₀ time₀ s) N T)
 
 pub stepping-start : {S : System} {m x t : List Float} {k : ℕ} {h : Float} {n : ℕ} {time : Float} → Passed S m x k h → length t ≡ k * dim S → finite time ≡ true → Stepping S m k h n time x t 0 time x t
 stepping-start P l τ =
-    record { few = omega arith; passed = P; tangents = l; clock = τ; state-kept = refl; tangents-kept = refl; rest = λ s N T. let z : s + 0 ≡ s = omega arith in rw (sub-zero, z) }
+    record { few = omega arith; passed = P; tangents = l; clock = τ; state-kept = refl; tangents-kept = refl; rest = λ D s N T. let z : s + 0 ≡ s = omega arith in rw (sub-zero, z) }
 
 passed-kept : {S : System} {m x x′ : List Float} {k : ℕ} {h : Float} → length x′ ≡ length x → Passed S m x k h → Passed S m x′ k h
 passed-kept e P =
@@ -99,21 +99,21 @@ passed-kept e P =
 module _ {S : System} {m : List Float} {k : ℕ} {h : Float} {n : ℕ} {time₀ : Float} {x₀ t₀ : List Float} {i : ℕ} {time : Float} {x t : List Float} (I : Stepping S m k h n time₀ x₀ t₀ i time x t) where
   pub stepping-end : n ≤ i → Advanced S m k h n time₀ x₀ t₀ (record { outcome = Accepted; steps = i; time = time }) x t
   unfolding steps
-  stepping-end g = record { status = λ s N T. let z : n - i ≡ 0 = omega arith in sym (rw z) ∙ I .rest s N T; few = I .few; clock = I .clock }
+  stepping-end g = record { status = λ D s N T. let z : n - i ≡ 0 = omega arith in sym (rw z) ∙ I .rest D s N T; few = I .few; clock = I .clock }
 
   module _ (r : Outcome) (x′ t′ : List Float) (e : observed r x′ t′ ≡ advanced S m x t k h) (g : i < n) where
-    first : (s : ℕ) (N : Norms) (T : Totals) (o : Status) → step (dynamics S m h n) (joined (motion (dim S) k x t time (s + i)) N T) ≡ o
-        → (o then steps (dynamics S m h n) (n - (i + 1))) ≡ steps (dynamics S m h n) n (joined (motion (dim S) k x₀ t₀ time₀ s) N T)
+    first : (D s : ℕ) (N : Norms) (T : Totals) (o : Status) → step (dynamics S m h D) (joined (motion (dim S) k x t time (s + i)) N T) ≡ o
+        → (o then steps (dynamics S m h D) (n - (i + 1))) ≡ steps (dynamics S m h D) n (joined (motion (dim S) k x₀ t₀ time₀ s) N T)
     unfolding steps
-    first s N T o f = let z : n - i ≡ suc (n - (i + 1)) = omega arith in sym (rw (z, f)) ∙ I .rest s N T
+    first D s N T o f = let z : n - i ≡ suc (n - (i + 1)) = omega arith in sym (rw (z, f)) ∙ I .rest D s N T
 
     pub stepping-refused : {ε : LyapunovError} → r ≡ Refused ε → Advanced S m k h n time₀ x₀ t₀ (record { outcome = Refused ε; steps = i; time = time }) x′ t′
     unfolding _then_
-    stepping-refused {ε} f = record { status = λ s N T. first s N T _ (step-refused n time t (I .passed) (I .tangents) r x′ t′ e (s + i) N T ε f); few = I .few; clock = I .clock }
+    stepping-refused {ε} f = record { status = λ D s N T. first D s N T _ (step-refused D time t (I .passed) (I .tangents) r x′ t′ e (s + i) N T ε f); few = I .few; clock = I .clock }
 
     pub stepping-late : r ≡ Accepted → finite (time ⊕ h) ≡ false → Advanced S m k h n time₀ x₀ t₀ (record { outcome = Refused InvalidTime; steps = i; time = time }) x′ t′
     unfolding _then_
-    stepping-late f b = record { status = λ s N T. first s N T _ (step-late n time t (I .passed) (I .tangents) r x′ t′ e (s + i) N T f b); few = I .few; clock = I .clock }
+    stepping-late f b = record { status = λ D s N T. first D s N T _ (step-late D time t (I .passed) (I .tangents) r x′ t′ e (s + i) N T f b); few = I .few; clock = I .clock }
 
     pub stepping-on : length x′ ≡ length x → length t′ ≡ length t → r ≡ Accepted → finite (time ⊕ h) ≡ true → Stepping S m k h n time₀ x₀ t₀ (i + 1) (time ⊕ h) x′ t′
     unfolding _then_
@@ -125,5 +125,5 @@ module _ {S : System} {m : List Float} {k : ℕ} {h : Float} {n : ℕ} {time₀ 
           clock = b;
           state-kept = ex ∙ I .state-kept;
           tangents-kept = et ∙ I .tangents-kept;
-          rest = λ s N T. let z : s + (i + 1) ≡ s + i + 1 = omega arith in rw z (first s N T _ (step-on n time t (I .passed) (I .tangents) r x′ t′ e (s + i) N T f b));
+          rest = λ D s N T. let z : s + (i + 1) ≡ s + i + 1 = omega arith in rw z (first D s N T _ (step-on D time t (I .passed) (I .tangents) r x′ t′ e (s + i) N T f b));
         }

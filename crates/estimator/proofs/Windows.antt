@@ -44,8 +44,8 @@ module _ (M : Dynamics) (n : ℕ) (c : RunState) (v : Outcome) (e : RunState) wh
 -- the steps came to a, the state x′ and the directions t
 module _ {S : System} {m : List Float} {k : ℕ} {h : Float} {H : Held} {n : ℕ} {a : Advance} {x′ t : List Float} (F : Fits S m k h n most most H)
     (A : Advanced S m k h n (H .progress .time) (H .state) (H .tangents) a x′ t) where
-  abbrev M : Dynamics
-  M = dynamics S m h n
+  abbrev M : ℕ → Dynamics
+  M D = dynamics S m h D
 
   abbrev p : Progress
   p = H .progress
@@ -59,7 +59,7 @@ module _ {S : System} {m : List Float} {k : ℕ} {h : Float} {H : Held} {n : ℕ
   pub steps-refused : (q : Progress) (ε : LyapunovError) → q ≡ made (a .outcome) → a .outcome ≡ Refused ε → Windowed S m k h n H (held x′ t (H .norms) q)
   steps-refused q ε e v =
       record {
-        status = rw e (window-refused M n (run-state (dim S) k H) (a .outcome) _ ε v (A .status (p .steps) (norms-of k (H .norms)) (totals k p)));
+        status = λ D. rw e (window-refused (M D) n (run-state (dim S) k H) (a .outcome) _ ε v (A .status D (p .steps) (norms-of k (H .norms)) (totals k p)));
         bounded = λ b c x. rw e (bounded-steps x (a .outcome) (A .clock) made-few);
       }
 
@@ -73,18 +73,18 @@ module _ {S : System} {m : List Float} {k : ℕ} {h : Float} {H : Held} {n : ℕ
     abbrev after : RunState
     after = joined (motion (dim S) k x′ t (a .time) (p .steps + a .steps)) (norms-of k (H .norms)) (totals k p)
 
-    steps-ok : steps M n (run-state (dim S) k H) ≡ ok after
-    steps-ok = sym (A .status (p .steps) (norms-of k (H .norms)) (totals k p)) ∙ rw v
+    steps-ok : (D : ℕ) → steps (M D) n (run-state (dim S) k H) ≡ ok after
+    steps-ok D = sym (A .status D (p .steps) (norms-of k (H .norms)) (totals k p)) ∙ rw v
 
-    again : status (dim S) k (held x′ t′ norms′ (made o)) ≡ reorthonormalise M after
+    again : (D : ℕ) → status (dim S) k (held x′ t′ norms′ (made o)) ≡ reorthonormalise (M D) after
     unfolding dynamics
-    again =
-        reorthonormalised (dim S) k t (H .norms) (F .passed .dimension-above) (F .passed .count) many (F .norms) o t′ norms′ orthonormalised-is M refl x′ (a .time) (p .steps + a .steps) (norms-of k (H .norms)) (totals k p)
+    again D =
+        reorthonormalised (dim S) k t (H .norms) (F .passed .dimension-above) (F .passed .count) many (F .norms) o t′ norms′ orthonormalised-is (M D) refl x′ (a .time) (p .steps + a .steps) (norms-of k (H .norms)) (totals k p)
 
     pub basis-collapsed : (q : Progress) (ε : LyapunovError) → q ≡ made o → o ≡ Refused ε → Windowed S m k h n H (held x′ t′ norms′ q)
     basis-collapsed q ε e f =
         record {
-          status = rw e (window-collapsed M n (run-state (dim S) k H) o _ after ε f steps-ok again);
+          status = λ D. rw e (window-collapsed (M D) n (run-state (dim S) k H) o _ after ε f (steps-ok D) (again D));
           bounded = λ b c x. rw e (bounded-steps x o (A .clock) made-few);
         }
 
@@ -97,7 +97,7 @@ module _ {S : System} {m : List Float} {k : ℕ} {h : Float} {H : Held} {n : ℕ
         let y : take k (updated counted (p .faint) (take k (drop k norms′))) ≡ zip counted (take k (p .faint)) (take k (drop k norms′)) =
         updated-take counted (p .faint) (take k (drop k norms′)) k r (omega (arith, F .bounded .counts, F .passed .count)) in
         record {
-          status = rw i′ (rw y (window-ok M n (run-state (dim S) k H) o (run-state (dim S) k (held x′ t′ norms′ (made o))) after f steps-ok again));
+          status = λ D. rw i′ (rw y (window-ok (M D) n (run-state (dim S) k H) o (run-state (dim S) k (held x′ t′ norms′ (made o))) after f (steps-ok D) (again D)));
           bounded = λ b c x. rw i′ (bounded-counted x Accepted (take k (drop k norms′)) (A .clock) made-few (omega (arith, r)));
         }
 
@@ -107,7 +107,7 @@ module _ {S : System} {m : List Float} {k : ℕ} {h : Float} {n : ℕ} {H H′ :
   pub measured-refused : (ε : LyapunovError) → H′ .progress .outcome ≡ Refused ε → MeasuredWindow S m k h n H old H′ old
   measured-refused ε v =
       record {
-        row-left = rw (← W .status, v);
+        row-left = rw (← W .status n, v);
         bounded = λ a c x. let y = W .bounded a c x in
             record { counts = y .counts; behind = y .behind; sums = y .sums; clock = y .clock; steps = y .steps; windows = omega (arith, y .windows); faint = y .faint };
       }
@@ -130,6 +130,6 @@ module _ {S : System} {m : List Float} {k : ℕ} {h : Float} {n : ℕ} {H H′ :
       let en′ : new ≡ q .time ∷ map (λ y. y ⊘ (h ⊗ as-float n)) (take k norms) ++ map (λ y. y ⊘ ((h ⊗ as-float n) ⊗ as-float (q .windows + 1))) (take k (updated (_⊕_) (q .sums) (take k norms))) =
       en ∙ rw (ep, eD, ew′, c) in
       record {
-        row-left = rw (← W .status, v, ep, v, en′, s, add-one);
+        row-left = rw (← W .status n, v, ep, v, en′, s, add-one);
         bounded = λ a b x. rw ep (bounded-added (W .bounded a b x) (updated (_⊕_) (q .sums) (take k norms)) (updated-length (_⊕_) (q .sums) (take k norms)));
       }

@@ -63,10 +63,10 @@ pub record Ends (k n w : ℕ) (x es fs : List Float) (p : Progress) : Type 0 whe
 
 -- ---- what is told
 
--- n steps from the state x, the directions t and the time: whatever a run holds beside them, and however many steps it has made
+-- n steps from the state x, the directions t and the time: whatever a run holds beside them, however many steps it has made, and whatever the steps D of a measured window are
 pub record Advanced (S : System) (m : List Float) (k : ℕ) (h : Float) (n : ℕ) (time : Float) (x t : List Float) (r : Advance) (x′ t′ : List Float) : Type 0 where
-  pub status : (s : ℕ) (N : Norms) (T : Totals)
-      → status-of (reported (r .outcome)) (joined (motion (dim S) k x′ t′ (r .time) (s + r .steps)) N T) ≡ steps (dynamics S m h n) n (joined (motion (dim S) k x t time s) N T)
+  pub status : (D s : ℕ) (N : Norms) (T : Totals)
+      → status-of (reported (r .outcome)) (joined (motion (dim S) k x′ t′ (r .time) (s + r .steps)) N T) ≡ steps (dynamics S m h D) n (joined (motion (dim S) k x t time s) N T)
   pub few : r .steps ≤ n
   pub clock : finite (r .time) ≡ true
 
@@ -77,14 +77,14 @@ Unmeasured k w H H′ = (made measured : ℕ) → Bounded k made measured (H .pr
 abbrev pub AllMeasured : ℕ → ℕ → Held → Held → Type 0
 AllMeasured k w H H′ = (made measured : ℕ) → Bounded k made measured (H .progress) → Bounded k (made + w) (measured + w) (H′ .progress)
 
--- one window of n steps
+-- one window of n steps, whatever the steps D of a measured one are
 pub record Windowed (S : System) (m : List Float) (k : ℕ) (h : Float) (n : ℕ) (H H′ : Held) : Type 0 where
-  pub status : status (dim S) k H′ ≡ window (dynamics S m h n) n (run-state (dim S) k H)
+  pub status : (D : ℕ) → status (dim S) k H′ ≡ window (dynamics S m h D) n (run-state (dim S) k H)
   pub bounded : Unmeasured k 1 H H′
 
--- w warm-up windows, if nothing is refused yet
+-- w warm-up windows of n steps, if nothing is refused yet
 pub record WarmedUp (S : System) (m : List Float) (k : ℕ) (h : Float) (n w : ℕ) (H H′ : Held) : Type 0 where
-  pub status : status (dim S) k H′ ≡ (status (dim S) k H then warm-up (dynamics S m h n) n w)
+  pub status : (D : ℕ) → status (dim S) k H′ ≡ (status (dim S) k H then warm-up (dynamics S m h D) n w)
   pub bounded : Unmeasured k w H H′
 
 -- the drawn basis orthonormalised and the duration tested, for every system of as many entries
