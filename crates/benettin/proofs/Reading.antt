@@ -12,6 +12,7 @@ use lib.Ieee.{Float, nan}
 use Rattle.error.specs.Tests.{Test, first-failing}
 use Rattle.error.specs.declared.Refusal.{Refusal}
 use Rattle.system.specs.System.{dim}
+use Rattle.system.specs.declared.System.{System}
 use Rattle.rk4.proofs.Lengths.{state-length}
 use Rattle.gram_schmidt.proofs.Finished.{sets-start}
 use Rattle.benettin.specs.Run.{Dynamics, Row, Course, Status, ok, refused, Spectrum, RunRefusal, RunAnswer, ended, stopped, answer, no-faint, OutputLengths, run-tests, course-of, run-past, run}
@@ -80,9 +81,9 @@ numbered-first (t ∷ ts) h r e = go (t .passes) (numbered-first ts (h .1) r) e
     go true f e = f e
     go false f e = let z : r ≡ t .refusal = cc in rw z (h .0)
 
-problem-keeps : (i : Input) → KeepsState (problem i .dynamics)
-unfolding problem dynamics
-problem-keeps i n x = state-length (i .system) (i .matrix) (i .step-size) x
+pub dynamics-keeps : (S : System) (m : List Float) (h : Float) (n : ℕ) → KeepsState (dynamics S m h n)
+unfolding dynamics
+dynamics-keeps S m h n s x = state-length S m h x
 
 module _ (i : Input) (K : ℕ) (o : OutputLengths) where
   run-fits : none ≡ first-failing (run-tests (problem i) K o) → Fits (dim (i .system)) K (i .windows) o (run-past none (problem i) K)
@@ -90,7 +91,7 @@ module _ (i : Input) (K : ℕ) (o : OutputLengths) where
   run-fits e =
       let g = ready i K o e in
       subst (λ (d : ℕ). Fits d K (i .windows) o (run-past none (problem i) K)) (g .step .state)
-      (answer-fits (problem i .dynamics) (length (i .state)) K (i .windows) o (course-of (problem i) K) (course-rows (problem i) K (problem-keeps i)) (g .rows) (g .exponents) (rw (g .step .state) (g .state)))
+      (answer-fits (problem i .dynamics) (length (i .state)) K (i .windows) o (course-of (problem i) K) (course-rows (problem i) K (dynamics-keeps (i .system) (i .matrix) (i .step-size) (i .steps))) (g .rows) (g .exponents) (rw (g .step .state) (g .state)))
 
   numbered-tests : Numbered (run-tests (problem i) K o)
   unfolding run-tests problem

@@ -90,7 +90,7 @@ module _ (M : Dynamics) (keeps : KeepsState M) (d K n : ℕ) where
       let f = zip-length (faint-or-not (M .lengths)) (c .totals .faint) (c .norms .reports) K (h .has .faint) (h .reports) in
       record { has = record { finished = h .has .finished; state = h .has .state; directions = h .has .directions; sums = h .has .sums; faint = f }; logs = h .logs; reports = h .reports }
 
-  window-has : (s : ℕ) (c : RunState) → Has d K n c → Holds (HasLogs d K n) n (window M s c)
+  pub window-has : (s : ℕ) (c : RunState) → Has d K n c → Holds (HasLogs d K n) n (window M s c)
   unfolding window
   window-has s c h =
       then-holds (HasLogs d K n) (HasLogs d K n) n (steps M s c then reorthonormalise M) (λ e. ok (count-faint M e))
@@ -109,7 +109,7 @@ module _ (M : Dynamics) (keeps : KeepsState M) (d K n : ℕ) where
       go true = h
       go false = (h .finished, omega arith)
 
-  begin-has : (c : RunState) → Has d K n c → Holds (Has d K n) n (begin M c)
+  pub begin-has : (c : RunState) → Has d K n c → Holds (Has d K n) n (begin M c)
   unfolding begin
   begin-has c h = then-holds (HasLogs d K n) (Has d K n) n (reorthonormalise M c) (check-duration M) (basis-has c h) (λ e g. duration-has e (g .has))
 
@@ -125,7 +125,7 @@ pub record Rows (d K n w : ℕ) (t : Course) : Type 0 where
   pub few : length (t .rows) ≤ w
   pub end : Holds (λ c. Has d K (n + length (t .rows)) c × (length (t .rows) ≡ w)) (n + length (t .rows)) (t .end)
 
-accumulate-has : (d K n : ℕ) (c : RunState) → HasLogs d K n c → HasLogs d K (suc n) (accumulate c)
+pub accumulate-has : (d K n : ℕ) (c : RunState) → HasLogs d K n c → HasLogs d K (suc n) (accumulate c)
 unfolding accumulate
 accumulate-has d K n c h =
     let s = zip-length (_⊕_) (c .totals .sums) (c .norms .logs) K (h .has .sums) (h .logs) in
@@ -164,18 +164,24 @@ module _ (M : Dynamics) (keeps : KeepsState M) (d K s : ℕ) where
   from-rows w (ok c) h = measured-rows w 0 c h
   from-rows w (refused r) h = record { wide = tt; few = omega arith; end = (h .0 ∙ omega arith, h .1) }
 
--- the whole run
-pub course-rows : (P : Problem) (K : ℕ) → KeepsState (P .dynamics) → Rows (length (P .start)) K 0 (P .windows) (course-of P K)
-unfolding course initial
-course-rows P K keeps =
-    let d = length (P .start) in
-    let c = start-of P K in
-    from-rows (P .dynamics) keeps d K (P .steps) (P .windows) (warmed-up (P .dynamics) (P .warm-up-steps) (P .warm-up-windows) c)
-    (warmed-up-has (P .dynamics) keeps d K 0 (P .warm-up-steps) (P .warm-up-windows) c
-    (record {
-      finished = refl;
-      state = refl;
-      directions = drawn-directions-length (P .generator) (P .dynamics .dim) K (P .seed);
-      sums = length-replicate K zero⁺;
-      faint = length-replicate K 0;
-    }))
+-- ---- the whole run
+
+module _ (P : Problem) (K : ℕ) where
+  pub start-has : Has (length (P .start)) K 0 (start-of P K)
+  unfolding initial
+  start-has =
+      record {
+        finished = refl;
+        state = refl;
+        directions = drawn-directions-length (P .generator) (P .dynamics .dim) K (P .seed);
+        sums = length-replicate K zero⁺;
+        faint = length-replicate K 0;
+      }
+
+  pub course-rows : KeepsState (P .dynamics) → Rows (length (P .start)) K 0 (P .windows) (course-of P K)
+  unfolding course
+  course-rows keeps =
+      let d = length (P .start) in
+      let c = start-of P K in
+      from-rows (P .dynamics) keeps d K (P .steps) (P .windows) (warmed-up (P .dynamics) (P .warm-up-steps) (P .warm-up-windows) c)
+      (warmed-up-has (P .dynamics) keeps d K 0 (P .warm-up-steps) (P .warm-up-windows) c start-has)
