@@ -356,7 +356,7 @@ leading-run P S k K o O hk h hK =
 
 -- ---- document 01's run
 
-early-undirected : (i : Input) → NoDirection (early-tests i)
+early-undirected : (i : Input) → NoDirection (early-tests (i .windows) i)
 early-undirected i = omega arith
 
 problem-sound : (i : Input) → Sound (problem i)

@@ -89,7 +89,7 @@ module _ (i : Input) (K : ℕ) (o : OutputLengths) where
   run-fits : none ≡ first-failing (run-tests (problem i) K o) → Fits (dim (i .system)) K (i .windows) o (run-past none (problem i) K)
   unfolding run-past problem
   run-fits e =
-      let g = ready i K o e in
+      let g = ready (i .windows) i K o e in
       subst (λ (d : ℕ). Fits d K (i .windows) o (run-past none (problem i) K)) (g .step .state)
       (answer-fits (problem i .dynamics) (length (i .state)) K (i .windows) o (course-of (problem i) K) (course-rows (problem i) K (dynamics-keeps (i .system) (i .matrix) (i .step-size) (i .steps))) (g .rows) (g .exponents) (rw (g .step .state) (g .state)))
 

@@ -18,7 +18,7 @@ use Rattle.system.specs.Tests.{dimension-tests, matrix-tests, time-tests}
 use Rattle.system.specs.declared.System.{System}
 use Rattle.system.proofs.Tests.{dimension-passed, matrix-passed, length-passed, time-passed}
 use Rattle.benettin.specs.Run.{OutputLengths, count-tests, output-tests, input-tests, run-tests}
-use Rattle.benettin.specs.Estimate.{Input, limit, setting-tests, is-none, state-tests, problem, dynamics}
+use Rattle.benettin.specs.Estimate.{Input, limit, setting-tests, is-none, state-tests, problem-within, dynamics}
 use Rattle.benettin.specs.Validation.{Ready}
 
 -- ---- 11, by the position that the code found
@@ -64,30 +64,30 @@ module _ (K d windows : ℕ) (o : OutputLengths) where
 
 -- ---- all of them
 
-module _ (i : Input) (K : ℕ) where
+module _ (whole : ℕ) (i : Input) (K : ℕ) where
   abbrev input-blocks : List Test
   input-blocks =
-      setting-tests K (i .step-size) (i .steps) (i .windows) (i .windows) (i .warm-up)
+      setting-tests K (i .step-size) (i .steps) (i .windows) whole (i .warm-up)
       ++ time-tests (i .time)
       ++ dimension-tests (i .system)
       ++ matrix-tests (i .system) (i .matrix)
       ++ state-tests (i .system) (i .state)
       ++ count-tests K (dim (i .system))
 
-  pub input-by-blocks : input-tests (problem i) K ≡ input-blocks
-  unfolding input-tests problem dynamics
+  pub input-by-blocks : input-tests (problem-within whole i) K ≡ input-blocks
+  unfolding input-tests problem-within dynamics
   input-by-blocks = refl
 
-  pub ready : (o : OutputLengths) → none ≡ first-failing (run-tests (problem i) K o) → Ready i K o
-  unfolding run-tests input-tests problem dynamics
+  pub ready : (o : OutputLengths) → none ≡ first-failing (run-tests (problem-within whole i) K o) → Ready whole i K o
+  unfolding run-tests input-tests problem-within dynamics
   ready o e =
       let q = both-passed input-blocks (output-tests K (dim (i .system)) (i .windows) o) e in
-      let a = both-passed (setting-tests K (i .step-size) (i .steps) (i .windows) (i .windows) (i .warm-up)) _ (q .0) in
+      let a = both-passed (setting-tests K (i .step-size) (i .steps) (i .windows) whole (i .warm-up)) _ (q .0) in
       let b = both-passed (time-tests (i .time)) _ (a .1) in
       let c = both-passed (dimension-tests (i .system)) _ (b .1) in
       let d = both-passed (matrix-tests (i .system) (i .matrix)) _ (c .1) in
       let f = both-passed (state-tests (i .system) (i .state)) _ (d .1) in
-      let settings = settings-passed K (i .step-size) (i .steps) (i .windows) (i .windows) (i .warm-up) (a .0) in
+      let settings = settings-passed K (i .step-size) (i .steps) (i .windows) whole (i .warm-up) (a .0) in
       let dimension = dimension-passed (i .system) (c .0) in
       let count = count-passed K (dim (i .system)) (f .1) in
       let outputs = outputs-passed K (dim (i .system)) (i .windows) o (q .1) in

@@ -121,22 +121,23 @@ pub fn validate_outputs(
     error::first_refusal(rows, rest)
 }
 
-// The tests 1 to 12.
+// The tests 1 to 12. The windows of the settings are the last of `whole`; any other run than one that goes on has the same count twice.
 pub fn validate_input(
     system: System,
     matrix: &[f64],
     time: f64,
     state: &[f64],
     config: BenettinConfig,
+    whole: u64,
 ) -> Outcome
-    ensures { λ r. ⌜ reported r ≡ first-failing (Run.input-tests (Estimate.problem (Estimate.input system (now (matrix .entry)) time (now (state .entry)) config)) (config .«top_k»)) ⌝ }
+    ensures { λ r. ⌜ reported r ≡ first-failing (Run.input-tests (Estimate.problem-within whole (Estimate.input system (now (matrix .entry)) time (now (state .entry)) config)) (config .«top_k»)) ⌝ }
 {
     let settings = validate_settings(
         config.top_k,
         config.step_size,
         config.steps_per_window,
         config.windows,
-        config.windows,
+        whole,
         config.transient_windows,
     );
     let time = system::validation::validate_time(time);
@@ -158,13 +159,15 @@ pub fn validate(
     time: f64,
     state: &[f64],
     config: BenettinConfig,
+    whole: u64,
     rows: usize,
     exponents: usize,
     last: usize,
 ) -> Outcome
-    ensures { λ r. ⌜ reported r ≡ first-failing (Run.run-tests (Estimate.problem (Estimate.input system (now (matrix .entry)) time (now (state .entry)) config)) (config .«top_k») (Run.lengths rows exponents last)) ⌝ }
+    ensures { λ r. ⌜ reported r ≡ first-failing
+        (Run.run-tests (Estimate.problem-within whole (Estimate.input system (now (matrix .entry)) time (now (state .entry)) config)) (config .«top_k») (Run.lengths rows exponents last)) ⌝ }
 {
-    let input = validate_input(system, matrix, time, state, config);
+    let input = validate_input(system, matrix, time, state, config, whole);
     let outputs = validate_outputs(system, config.top_k, config.windows, rows, exponents, last);
     error::first_refusal(input, outputs)
 }

@@ -27,7 +27,7 @@ fn run(
     final_state: &mut [f64],
     config: BenettinConfig,
 ) -> SpectrumEstimate
-    requires { ⌜ Validation.Ready (Estimate.input system (now matrix) time (now state) config) (config .«top_k») (Outputs.lengths-of (now rows) (now exponents) (now «final_state»))
+    requires { ⌜ Validation.Ready (config .windows) (Estimate.input system (now matrix) time (now state) config) (config .«top_k») (Outputs.lengths-of (now rows) (now exponents) (now «final_state»))
         × (length (now tangents) ≡ config .«top_k» * length (now state)) ⌝ }
     ensures { λ r. ⌜ Outputs.observed r (now (rows .exit)) (now (exponents .exit)) (now («final_state» .exit))
         ≡ Outputs.outputs (config .windows) (now (rows .entry)) (now (exponents .entry)) (now («final_state» .entry))
@@ -86,6 +86,7 @@ pub fn estimate_spectrum_at(
         time,
         state,
         config,
+        config.windows,
         rows.len(),
         exponents.len(),
         final_state.len(),

@@ -21,6 +21,7 @@ ghost use Rattle.lyapunov.specs.Interface as Interface;
 use benettin::BenettinConfig;
 use benettin::Configured;
 use benettin::SpectrumEstimate;
+use benettin::validation;
 use error::Outcome;
 use system::System;
 
@@ -241,7 +242,7 @@ pub extern "C" fn lyapunov_validate(
         transient_windows,
         seed: benettin::DEFAULT_SEED,
     };
-    let outcome = benettin::validation::validate_input(system, matrix, time, state, config);
+    let outcome = validation::validate_input(system, matrix, time, state, config, windows);
     report(outcome, place)
 }
 

@@ -2,7 +2,7 @@
 use borrow.Author.Needs.{needs}
 use mathlib.Core.Path.{ap, _∙_}
 use Rattle.system.specs.declared.System.{System}
-use Rattle.benettin.specs.Estimate.{input, settings, default-seed}
+use Rattle.benettin.specs.Estimate.{input, settings, default-seed, problem}
 use Rattle.lyapunov.specs.Interface.{input-refusal}
 use Rattle.lyapunov.proofs.Runs.{refuses-alike}
 use Rattle.lyapunov.proofs.lyapunov_validate.Statement.{statement}
@@ -18,6 +18,7 @@ report-requires : tie.Need-report-requires
 report-requires c κs = search needs
 
 returns : tie.Need-returns
+unfolding problem
 returns c =
     let v = c .before .before in
     let a = v .before .before .before .before .args in

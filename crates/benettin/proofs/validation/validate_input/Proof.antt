@@ -17,7 +17,7 @@ returns c =
     (chained _ _ (c .before .before .first-refusal3 .ensures) (m .before .validate-dimension .ensures)
     (chained _ _ (c .before .before .before .first-refusal2 .ensures) (m .validate-matrix .ensures)
     (chained _ _ (c .before .before .before .before .first-refusal .ensures) (l .before .validate-state .ensures) (l .validate-count .ensures)))))
-    ∙ sym (ap first-failing (input-by-blocks _ _))
+    ∙ sym (ap first-failing (input-by-blocks _ _ _))
 
 pub validate-input-spec : {M : Type 1} → statement M
 validate-input-spec =

@@ -40,10 +40,12 @@ module _ (c : tie.After-enum-told) where
   o = lengths-of (s .args .rows .now) (s .args .exponents .now) (s .args .final-state .now)
 
   passed : none ≡ first-failing (run-tests (problem (input-of s)) k o)
+  unfolding problem
   passed = sym (ap reported (c .enum-told .given .1)) ∙ c .before .before .validate .ensures
 
-  known : Ready (input-of s) k o
-  known = ready (input-of s) k o passed
+  known : Ready (input-of s .windows) (input-of s) k o
+  unfolding problem
+  known = ready (input-of s .windows) (input-of s) k o passed
 
   small : d ≤ 16
   small = omega (arith, known .step .state, known .step .dimension-within)
@@ -68,6 +70,7 @@ refused-requires : tie.Need-refused-requires
 refused-requires c κs = search needs
 
 returns : tie.Need-returns
+unfolding problem
 returns c =
     let v = c .before .before .before .before in
     let a = start v .args in
@@ -106,7 +109,7 @@ run-requires c κs =
     let b = c .before .before .before .before .before .before in
     let e = copied b _ in
     let a = s (tested b) .args in (
-      subst (λ (x : List Float). Ready (input (a .system) (a .matrix .now) (a .time) x (a .config)) (a .config .«top_k») (o (tested b))) (sym e) (known (tested b)),
+      subst (λ (x : List Float). Ready (a .config .windows) (input (a .system) (a .matrix .now) (a .time) x (a .config)) (a .config .«top_k») (o (tested b))) (sym e) (known (tested b)),
       length-take-le _ _ (entries (tested b)) ∙ rw e,
     )
 
