@@ -17,7 +17,7 @@ use Rattle.rk4.proofs.Lengths.{state-length}
 use Rattle.gram_schmidt.proofs.Finished.{sets-start}
 use Rattle.benettin.specs.Run.{Dynamics, Row, Course, Status, ok, refused, Spectrum, RunRefusal, RunAnswer, ended, stopped, answer, no-faint, OutputLengths, run-tests, course-of, run-past, run}
 use Rattle.benettin.specs.Estimate.{Input, problem, dynamics, estimate}
-use Rattle.benettin.specs.Outputs.{Call, Meets, lent, lengths-of, estimated, outputs, sixteen, flat-row, flat-rows}
+use Rattle.benettin.specs.Outputs.{Call, Meets, lent, lengths-of, estimated, outputs-from, outputs, sixteen, flat-row, flat-rows}
 use Rattle.benettin.specs.Refusals.{Wide}
 use Rattle.benettin.specs.LeadingOutputs.{row-at, rows-from, read}
 use Rattle.benettin.proofs.Sizes.{KeepsState, Has, Holds, Rows, course-rows}
@@ -160,7 +160,7 @@ written-front : (n : ℕ) (l v : List Float) → length v ≡ n → n ≤ length
 written-front n l v e h = ap (take n) (sets-start v l (omega arith)) ∙ take-at v _ n e
 
 read-back : (d K w : ℕ) (rows es fs : List Float) (a : RunAnswer) → Fits d K w (lengths-of rows es fs) a → read d K (outputs w rows es fs a) ≡ a
-unfolding outputs
+unfolding outputs-from
 read-back d K w rows es fs (ended rs x) h =
     rw (
       ← h .many,
@@ -183,7 +183,7 @@ NotZero none = Unit {0}
 NotZero (some r) = 0 < r .number
 
 outputs-number : (d K w : ℕ) (rows es fs : List Float) (a : RunAnswer) → Fits d K w (lengths-of rows es fs) a → NotZero (outputs w rows es fs a .refusal)
-unfolding outputs
+unfolding outputs-from
 outputs-number d K w rows es fs (ended rs x) h = tt
 outputs-number d K w rows es fs (stopped rs r f) h = h .numbered
 

@@ -11,19 +11,19 @@ use Rattle.gram_schmidt.proofs.Finished.{sets-start}
 use Rattle.system.specs.System.{dim}
 use Rattle.benettin.specs.Run.{stopped, run-past, run}
 use Rattle.benettin.specs.Estimate.{problem, estimate}
-use Rattle.benettin.specs.Outputs.{Estimated, estimated, outputs, lent, flat-rows}
+use Rattle.benettin.specs.Outputs.{Estimated, estimated, outputs-from, outputs, lent, flat-rows}
 use Rattle.benettin.specs.Refusals.{EarlyRefusal, LateRefusal}
 use Rattle.benettin.proofs.Reading.{StoppedFits, Fits, estimate-fits, flat-length, none-faint}
 
 pub early-refusal : EarlyRefusal
-unfolding estimated estimate run run-past outputs flat-rows
+unfolding estimated estimate run run-past outputs-from flat-rows
 early-refusal i K c r m e =
     let q : c .after ≡ outputs (i .windows) (c .rows) (c .exponents) (c .final-state) (run-past (some r) (problem i) K) =
     m ∙ ap (λ (o : Option Refusal). outputs (i .windows) (c .rows) (c .exponents) (c .final-state) (run-past o (problem i) K)) e in
     (ap (λ (x : Estimated). x .refusal) q, ap (λ (x : Estimated). x .rows) q, ap (λ (x : Estimated). x .exponents) q, ap (λ (x : Estimated). x .final-state) q)
 
 pub late-refusal : LateRefusal
-unfolding estimated outputs
+unfolding estimated outputs-from
 late-refusal i K c rs q f m e =
     let x : c .after ≡ outputs (i .windows) (c .rows) (c .exponents) (c .final-state) (stopped rs q f) = m ∙ ap (outputs (i .windows) (c .rows) (c .exponents) (c .final-state)) e in
     let h : StoppedFits K (lent c) rs q f = subst (Fits (dim (i .system)) K (i .windows) (lent c)) e (estimate-fits i K (lent c)) in

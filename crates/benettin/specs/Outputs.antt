@@ -40,10 +40,10 @@ flat-rows (r ∷ rs) = flat-row r ++ flat-rows rs
 abbrev pub sixteen : List ℕ → List ℕ
 sixteen f = f ++ replicate (16 - length f) 0
 
--- Rows are written from the start, as many as measured windows were finished; exponents and the final state only by a run that ends. All else stays as it was. The times of a refused run are +0.0.
-unfoldable pub outputs : ℕ → List Float → List Float → List Float → RunAnswer → Estimated
+-- Rows are written from place a on, as many as measured windows were finished; exponents and the final state only by a run that ends. All else stays as it was. The times of a refused run are +0.0.
+unfoldable pub outputs-from : ℕ → ℕ → List Float → List Float → List Float → RunAnswer → Estimated
 unfolding flat-rows
-outputs windows rows exponents final (ended rs x) =
+outputs-from a windows rows exponents final (ended rs x) =
     record {
       refusal = none;
       windows = windows;
@@ -51,11 +51,11 @@ outputs windows rows exponents final (ended rs x) =
       final-time = x .final-time;
       measured-time = x .measured-time;
       faint = sixteen (x .faint);
-      rows = sets rows 0 (flat-rows rs);
+      rows = sets rows a (flat-rows rs);
       exponents = sets exponents 0 (x .exponents);
       final-state = sets final 0 (x .state);
     }
-outputs windows rows exponents final (stopped rs r f) =
+outputs-from a windows rows exponents final (stopped rs r f) =
     record {
       refusal = some (refuse (r .number) (r .place));
       windows = r .finished;
@@ -63,17 +63,21 @@ outputs windows rows exponents final (stopped rs r f) =
       final-time = zero⁺;
       measured-time = zero⁺;
       faint = sixteen f;
-      rows = sets rows 0 (flat-rows rs);
+      rows = sets rows a (flat-rows rs);
       exponents = exponents;
       final-state = final;
     }
+
+-- of a run, from the start of the rows slice
+abbrev pub outputs : ℕ → List Float → List Float → List Float → RunAnswer → Estimated
+outputs = outputs-from 0
 
 abbrev pub lengths-of : List Float → List Float → List Float → OutputLengths
 lengths-of rows exponents final = lengths (length rows) (length exponents) (length final)
 
 -- of an input, K and the three outputs as they are handed over
 unfoldable pub estimated : Input → ℕ → List Float → List Float → List Float → Estimated
-unfolding estimate outputs
+unfolding estimate outputs-from
 estimated i K rows exponents final = outputs (i .windows) rows exponents final (estimate i K (lengths-of rows exponents final))
 
 -- what the code's answer and the outputs stand for

@@ -19,7 +19,7 @@ use Rattle.gram_schmidt.proofs.Finished.{sets-start}
 use Rattle.system.specs.System.{dim}
 use Rattle.benettin.specs.Run.{begin, warmed-up, measured-from, course, initial, as-float, answer, run-tests, run-past, run}
 use Rattle.benettin.specs.Estimate.{Input, dynamics, splitmix64, problem, estimate}
-use Rattle.benettin.specs.Outputs.{Estimated, estimated, outputs, observed, sixteen, lengths-of, flat-rows}
+use Rattle.benettin.specs.Outputs.{Estimated, estimated, outputs-from, outputs, observed, sixteen, lengths-of, flat-rows}
 use Rattle.benettin.specs.declared.SpectrumEstimate.{SpectrumEstimate}
 use Rattle.benettin.proofs.Reading.{none-faint}
 use Rattle.estimator.specs.Progress.{Held, status, refused-estimate}
@@ -35,13 +35,13 @@ module _ {k n W : ℕ} {x es fs : List Float} {p : Progress} (G : Ends k n W x e
       sym (take-append-drop k (p .faint)) ∙ ap (λ (z : List ℕ). take k (p .faint) ++ z) (G .bounded .behind ∙ drop-replicate {A = ℕ} 0 k 16 (G .few) ∙ rw z)
 
   pub end-refused : (ε : LyapunovError) (r : SpectrumEstimate) → p .outcome ≡ Refused ε → r ≡ refused-estimate ε (p .windows) (p .steps) → Ended k D W x p es fs r es fs
-  unfolding outputs answer
-  end-refused ε r v e M d t norms rows rs δ = rw (v, e, none-faint k)
+  unfolding outputs-from answer
+  end-refused ε r v e M d t norms rows place rs δ = rw (v, e, none-faint k)
 
   pub end-done : (u w : Float) (us y : List Float) → p .outcome ≡ Accepted → u ≡ D → w ≡ as-float W → us ≡ map (λ s. s ⊘ (u ⊗ w)) (take k (p .sums)) → y ≡ x
       → Ended k D W x p es fs (record { outcome = Accepted; windows = W; steps = p .steps; «final_time» = p .time; «measured_time» = u ⊗ w; faint = p .faint }) (us ++ drop k es) (y ++ drop (length x) fs)
-  unfolding outputs answer
-  end-done u w us y v eu ew eus ey M d t norms rows rs δ =
+  unfolding outputs-from answer
+  end-done u w us y v eu ew eus ey M d t norms rows place rs δ =
       let l : length us ≡ k = ap length eus ∙ length-map (take k (p .sums)) _ ∙ length-take-le k (p .sums) (omega (arith, G .few, G .bounded .sums)) in
       let A : sets es 0 us ≡ us ++ drop k es = sets-start us es (omega (arith, G .exponents)) ∙ rw l in
       let B : sets fs 0 x ≡ x ++ drop (length x) fs = sets-start x fs (G .state) in
@@ -65,7 +65,7 @@ run-is i K {H₁} {H₂} {H₃} {rows} {rows′} es fs es′ fs′ r d s B U X E
     let t : written rows 0 (measured-from M (i .steps) (i .windows) (status (dim (i .system)) K H₂)) ≡ written rows 0 T = rw (U .status (i .steps), b) in
     let A : rows′ ≡ sets rows 0 (flat-rows (T .rows)) = ap (λ (y : Recorded). y .rows) (X .rows-left ∙ t) in
     let C : status (dim (i .system)) K H₃ ≡ T .end = ap (λ (y : Recorded). y .end) (X .rows-left ∙ t) in
-    rw (A, ← C) (E M (dim (i .system)) (H₃ .tangents) (H₃ .norms) rows (T .rows) refl)
+    rw (A, ← C) (E M (dim (i .system)) (H₃ .tangents) (H₃ .norms) rows 0 (T .rows) refl)
 
 -- ---- what the tests decide
 
@@ -74,7 +74,7 @@ module _ (i : Input) (K : ℕ) (rows es fs : List Float) where
   tests-of = first-failing (run-tests (problem i) K (lengths-of rows es fs))
 
   refused-past : (o : Option Refusal) (ε : LyapunovError) → some (refusal ε) ≡ o → observed (refused-estimate ε 0 0) rows es fs ≡ outputs (i .windows) rows es fs (run-past o (problem i) K)
-  unfolding outputs run-past flat-rows
+  unfolding outputs-from run-past flat-rows
   refused-past o ε e = rw (← e, none-faint K)
 
   pub refused-by-tests : (ε : LyapunovError) (r : SpectrumEstimate) → r ≡ refused-estimate ε 0 0 → some (refusal ε) ≡ tests-of → observed r rows es fs ≡ estimated i K rows es fs

@@ -13,7 +13,7 @@ use Rattle.system.specs.declared.System.{System}
 use Rattle.rk4.specs.Tests.{Passed}
 use Rattle.benettin.specs.Run.{Dynamics, Norms, Totals, Row, Course, Status, ok, refused, row, accumulate, steps, window, warm-up, begin, initial, measured-from, answer, _then_}
 use Rattle.benettin.specs.Estimate.{dynamics, splitmix64, limit}
-use Rattle.benettin.specs.Outputs.{flat-row, flat-rows, observed, outputs}
+use Rattle.benettin.specs.Outputs.{flat-row, flat-rows, observed, outputs-from}
 use Rattle.benettin.specs.declared.SpectrumEstimate.{SpectrumEstimate}
 use Rattle.estimator.specs.Progress.{Held, held, motion, joined, run-state, status-of, status}
 use Rattle.estimator.specs.declared.progress.Progress.{Progress}
@@ -122,8 +122,8 @@ pub record MeasuredWindows (S : System) (m : List Float) (k : ℕ) (h : Float) (
 
 -- ---- the end
 
--- of w windows of the duration D, whatever the directions and the rows are
+-- of w windows of the duration D, whatever the directions and the rows are, and wherever those are written
 abbrev pub Ended : ℕ → Float → ℕ → List Float → Progress → List Float → List Float → SpectrumEstimate → List Float → List Float → Type 0
 Ended k D w x p exponents final r exponents′ final′ =
-    (M : Dynamics) (d : ℕ) (t norms rows : List Float) (rs : List Row) → M .duration ≡ D
-    → observed r (sets rows 0 (flat-rows rs)) exponents′ final′ ≡ outputs w rows exponents final (answer M w k rs (status d k (held x t norms p)))
+    (M : Dynamics) (d : ℕ) (t norms rows : List Float) (a : ℕ) (rs : List Row) → M .duration ≡ D
+    → observed r (sets rows a (flat-rows rs)) exponents′ final′ ≡ outputs-from a w rows exponents final (answer M w k rs (status d k (held x t norms p)))
