@@ -17,13 +17,13 @@ use Rattle.floats.specs.Arithmetic.{_⊗_, _⊘_}
 use Rattle.floats.proofs.Sets.{drop-replicate}
 use Rattle.gram_schmidt.proofs.Finished.{sets-start}
 use Rattle.system.specs.System.{dim}
-use Rattle.benettin.specs.Run.{begin, warmed-up, measured-from, course, initial, as-float, answer, run-tests, run-past, run}
-use Rattle.benettin.specs.Estimate.{Input, dynamics, splitmix64, problem, estimate}
+use Rattle.benettin.specs.Run.{Dynamics, Course, begin, warmed-up, course, start-of, course-of, as-float, answer, run-tests, run-past, run}
+use Rattle.benettin.specs.Estimate.{Input, dynamics, problem, estimate}
 use Rattle.benettin.specs.Outputs.{Estimated, estimated, outputs-from, outputs, observed, sixteen, lengths-of, flat-rows}
 use Rattle.benettin.specs.declared.SpectrumEstimate.{SpectrumEstimate}
 use Rattle.benettin.proofs.Reading.{none-faint}
 use Rattle.estimator.specs.Progress.{Held, status, refused-estimate}
-use Rattle.estimator.specs.UnderWay.{Ends, Begun, WarmedUp, MeasuredWindows, Ended, Recorded, written}
+use Rattle.estimator.specs.UnderWay.{Ends, Begun, WarmedUp, MeasuredWindows, Ended, Recorded, recorded, written}
 use Rattle.estimator.specs.declared.progress.Progress.{Progress}
 
 -- ---- the end
@@ -48,24 +48,30 @@ module _ {k n W : ℕ} {x es fs : List Float} {p : Progress} (G : Ends k n W x e
       let eus′ : us ≡ map (λ s. s ⊘ (D ⊗ as-float W)) (take k (p .sums)) = rw (eu, ew) at eus in
       rw (v, ey, δ, B, ← eus′, A, eu, ew, ← faint-is)
 
--- ---- the run once the tests are passed
+-- ---- where a run stands after its windows, and its end, once the tests are passed
 
-pub run-is : (i : Input) (K : ℕ) {H₁ H₂ H₃ : Held} {rows rows′ : List Float} (es fs es′ fs′ : List Float) (r : SpectrumEstimate) → length (i .state) ≡ dim (i .system) → H₁ .state ≡ i .state
-    → Begun K (i .step-size) (i .steps) (i .time) (i .seed) H₁
-    → WarmedUp (i .system) (i .matrix) K (i .step-size) (i .steps) (i .warm-up) H₁ H₂
-    → MeasuredWindows (i .system) (i .matrix) K (i .step-size) (i .steps) (i .windows) H₂ rows H₃ rows′
-    → Ended K (i .step-size ⊗ as-float (i .steps)) (i .windows) (H₃ .state) (H₃ .progress) es fs r es′ fs′
-    → observed r rows′ es′ fs′ ≡ outputs (i .windows) rows es fs (run-past none (problem i) K)
-unfolding run-past problem dynamics course warmed-up
-run-is i K {H₁} {H₂} {H₃} {rows} {rows′} es fs es′ fs′ r d s B U X E =
-    let M = dynamics (i .system) (i .matrix) (i .step-size) (i .steps) in
-    let c = initial splitmix64 (dim (i .system)) (i .state) (i .time) (i .seed) K in
-    let T = course M (i .steps) (i .warm-up) (i .steps) (i .windows) c in
-    let b : status (dim (i .system)) K H₁ ≡ begin M c = B .status (i .system) (i .matrix) (ap length s ∙ d) ∙ rw s in
-    let t : written rows 0 (measured-from M (i .steps) (i .windows) (status (dim (i .system)) K H₂)) ≡ written rows 0 T = rw (U .status (i .steps), b) in
-    let A : rows′ ≡ sets rows 0 (flat-rows (T .rows)) = ap (λ (y : Recorded). y .rows) (X .rows-left ∙ t) in
-    let C : status (dim (i .system)) K H₃ ≡ T .end = ap (λ (y : Recorded). y .end) (X .rows-left ∙ t) in
-    rw (A, ← C) (E M (dim (i .system)) (H₃ .tangents) (H₃ .norms) rows 0 (T .rows) refl)
+-- of the course T, whose rows are written from place a on
+pub ended-is : (M : Dynamics) (d k W a : ℕ) (H : Held) (rows : List Float) {rows′ : List Float} (T : Course) (es fs es′ fs′ : List Float) (r : SpectrumEstimate) → recorded rows′ (status d k H) ≡ written rows a T
+    → Ended k (M .duration) W (H .state) (H .progress) es fs r es′ fs′
+    → observed r rows′ es′ fs′ ≡ outputs-from a W rows es fs (answer M W k (T .rows) (T .end))
+ended-is M d k W a H rows {rows′} T es fs es′ fs′ r e E =
+    let x : rows′ ≡ sets rows a (flat-rows (T .rows)) = ap (λ (y : Recorded). y .rows) e in
+    let c : status d k H ≡ T .end = ap (λ (y : Recorded). y .end) e in
+    rw (x, ← c) (E M d (H .tangents) (H .norms) rows a (T .rows) refl)
+
+module _ (i : Input) (K : ℕ) {H₁ H₂ H₃ : Held} {rows rows′ : List Float} (d : length (i .state) ≡ dim (i .system)) (s : H₁ .state ≡ i .state) (B : Begun K (i .step-size) (i .steps) (i .time) (i .seed) H₁)
+    (U : WarmedUp (i .system) (i .matrix) K (i .step-size) (i .steps) (i .warm-up) H₁ H₂) (X : MeasuredWindows (i .system) (i .matrix) K (i .step-size) (i .steps) (i .windows) H₂ rows H₃ rows′) where
+  pub course-is : recorded rows′ (status (dim (i .system)) K H₃) ≡ written rows 0 (course-of (problem i) K)
+  unfolding problem dynamics course warmed-up
+  course-is =
+      let P = problem i in
+      let b : status (dim (i .system)) K H₁ ≡ begin (P .dynamics) (start-of P K) = B .status (i .system) (i .matrix) (ap length s ∙ d) ∙ rw s in
+      X .rows-left ∙ rw (U .status (i .steps), b)
+
+  pub run-is : (es fs es′ fs′ : List Float) (r : SpectrumEstimate) → Ended K (i .step-size ⊗ as-float (i .steps)) (i .windows) (H₃ .state) (H₃ .progress) es fs r es′ fs′
+      → observed r rows′ es′ fs′ ≡ outputs (i .windows) rows es fs (run-past none (problem i) K)
+  unfolding run-past problem dynamics
+  run-is es fs es′ fs′ r E = ended-is (problem i .dynamics) (dim (i .system)) K (i .windows) 0 H₃ rows (course-of (problem i) K) es fs es′ fs′ r course-is E
 
 -- ---- what the tests decide
 

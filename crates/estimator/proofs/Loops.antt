@@ -71,7 +71,7 @@ module _ {S : System} {m : List Float} {k : ℕ} {h : Float} {n W : ℕ} {H₀ H
 -- ---- a row within the slice of rows
 
 -- a part of width entries from a, put back
-put-is : (rows : List Float) (a width : ℕ) (new : List Float) → a + width ≤ length rows → length new ≡ width → putMid a (a + width - a) rows new ≡ sets rows a new
+pub put-is : (rows : List Float) (a width : ℕ) (new : List Float) → a + width ≤ length rows → length new ≡ width → putMid a (a + width - a) rows new ≡ sets rows a new
 put-is rows a width new h g =
     let z : a + width - a ≡ width = omega arith in
     rw (z, drop-drop width a rows, ← g) (sym (append-assoc (take a rows) new (drop (a + length new) rows)) ∙ sym (sets-eq new rows a (omega arith)))
@@ -107,7 +107,7 @@ measuring-start {H = H} rows F =
 
 -- the row of one window more, and the rows behind it
 module _ (M : Dynamics) (n j : ℕ) (rows : List Float) (a width : ℕ) (new : List Float) (l : a + width ≤ length rows) (g : length new ≡ width) where
-  one-more : (o s : Status) → recorded new s ≡ with-row-of M (take (a + width - a) (drop a rows)) o
+  pub one-more : (o s : Status) → recorded new s ≡ with-row-of M (take (a + width - a) (drop a rows)) o
       → written rows a (with-row M o (measured M n j)) ≡ written (putMid a (a + width - a) rows new) (a + width) (measured-from M n j s)
   unfolding with-row flat-rows measured-from
   one-more (ok c) s e =

@@ -123,7 +123,7 @@ returns c =
     let b = begun w in
     let s = start b in
     let a = s .args in
-    run-is (input-of s) (a .config .«top_k») (a .exponents .now) (a .final-state .now) _ _ (e .end .result) (s .pre .0 .step .state) refl (b .begin .ensures) (w .warm-up .ensures) (m .measure .ensures) (e .end .ensures)
+    run-is (input-of s) (a .config .«top_k») (s .pre .0 .step .state) refl (b .begin .ensures) (w .warm-up .ensures) (m .measure .ensures) (a .exponents .now) (a .final-state .now) _ _ (e .end .result) (e .end .ensures)
 
 pub run-spec : {M : Type 1} → statement M
 run-spec =
