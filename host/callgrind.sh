@@ -17,5 +17,5 @@ work=$(mktemp -d)
 trap 'rm -rf "$work"' EXIT
 "${CC:-cc}" -std=c99 -O2 -I "$root/include" "$root/examples/lorenz.c" "$archive" -o "$work/lorenz"
 valgrind --tool=callgrind --callgrind-out-file="$work/out" \
-    --toggle-collect=lyapunov_estimate_spectrum_at "$work/lorenz" 2>"$work/log" || { cat "$work/log"; exit 1; }
+    --toggle-collect='lyapunov_estimate_spectrum*' "$work/lorenz" 2>"$work/log" || { cat "$work/log"; exit 1; }
 grep Collected "$work/log" | sed 's/.*Collected/instructions of every run/'
