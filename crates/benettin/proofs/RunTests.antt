@@ -32,9 +32,9 @@ module _ {P : Position} {o : Option ℕ} (e : index P ≡ o) where
 
 -- ---- what passing a block gives
 
-module _ (K : ℕ) (h : Float) (steps later whole warm-up : ℕ) where
-  pub settings-passed : none ≡ first-failing (setting-tests K h steps later whole warm-up)
-      → (0 < K) × (positive h ≡ true) × (0 < steps) × (0 < later) × (steps ≤ limit) × (whole ≤ limit) × (warm-up ≤ limit)
+module _ (K : ℕ) (h : Float) (steps later total warm-up : ℕ) where
+  pub settings-passed : none ≡ first-failing (setting-tests K h steps later total warm-up)
+      → (0 < K) × (positive h ≡ true) × (0 < steps) × (0 < later) × (steps ≤ limit) × (total ≤ limit) × (warm-up ≤ limit)
   settings-passed e₁ =
       let p₁ = passed _ _ e₁ in
       let p₂ = passed _ _ (p₁ .1) in
@@ -43,7 +43,7 @@ module _ (K : ℕ) (h : Float) (steps later whole warm-up : ℕ) where
       let q₀ = passed _ _ (p₄ .1) in
       let q₁ = passed _ _ (q₀ .1) in
       let q₂ = passed _ _ (q₁ .1) in
-      (ltb-true 0 K (p₁ .0), p₂ .0, ltb-true 0 steps (p₃ .0), ltb-true 0 later (p₄ .0), leb-true steps limit (q₀ .0), leb-true whole limit (q₁ .0), leb-true warm-up limit (q₂ .0))
+      (ltb-true 0 K (p₁ .0), p₂ .0, ltb-true 0 steps (p₃ .0), ltb-true 0 later (p₄ .0), leb-true steps limit (q₀ .0), leb-true total limit (q₁ .0), leb-true warm-up limit (q₂ .0))
 
 finite-passed : (o : Option ℕ) (ts : List Test) → none ≡ first-failing (test (is-none o) 11 (Option·getD o 0) ∷ ts) → o ≡ none
 finite-passed none ts e = refl
@@ -64,30 +64,30 @@ module _ (K d windows : ℕ) (o : OutputLengths) where
 
 -- ---- all of them
 
-module _ (whole : ℕ) (i : Input) (K : ℕ) where
+module _ (total : ℕ) (i : Input) (K : ℕ) where
   abbrev input-blocks : List Test
   input-blocks =
-      setting-tests K (i .step-size) (i .steps) (i .windows) whole (i .warm-up)
+      setting-tests K (i .step-size) (i .steps) (i .windows) total (i .warm-up)
       ++ time-tests (i .time)
       ++ dimension-tests (i .system)
       ++ matrix-tests (i .system) (i .matrix)
       ++ state-tests (i .system) (i .state)
       ++ count-tests K (dim (i .system))
 
-  pub input-by-blocks : input-tests (problem-within whole i) K ≡ input-blocks
+  pub input-by-blocks : input-tests (problem-within total i) K ≡ input-blocks
   unfolding input-tests problem-within dynamics
   input-by-blocks = refl
 
-  pub ready : (o : OutputLengths) → none ≡ first-failing (run-tests (problem-within whole i) K o) → Ready whole i K o
+  pub ready : (o : OutputLengths) → none ≡ first-failing (run-tests (problem-within total i) K o) → Ready total i K o
   unfolding run-tests input-tests problem-within dynamics
   ready o e =
       let q = both-passed input-blocks (output-tests K (dim (i .system)) (i .windows) o) e in
-      let a = both-passed (setting-tests K (i .step-size) (i .steps) (i .windows) whole (i .warm-up)) _ (q .0) in
+      let a = both-passed (setting-tests K (i .step-size) (i .steps) (i .windows) total (i .warm-up)) _ (q .0) in
       let b = both-passed (time-tests (i .time)) _ (a .1) in
       let c = both-passed (dimension-tests (i .system)) _ (b .1) in
       let d = both-passed (matrix-tests (i .system) (i .matrix)) _ (c .1) in
       let f = both-passed (state-tests (i .system) (i .state)) _ (d .1) in
-      let settings = settings-passed K (i .step-size) (i .steps) (i .windows) whole (i .warm-up) (a .0) in
+      let settings = settings-passed K (i .step-size) (i .steps) (i .windows) total (i .warm-up) (a .0) in
       let dimension = dimension-passed (i .system) (c .0) in
       let count = count-passed K (dim (i .system)) (f .1) in
       let outputs = outputs-passed K (dim (i .system)) (i .windows) o (q .1) in

@@ -39,19 +39,19 @@ pub record Input : Type 0 where
 abbrev pub limit : ℕ
 limit = 16777216
 
--- 3 to 5: steps and windows not 0, then the first count over the limit (0 steps, 1 windows, 2 warm-up). A run that goes on makes `later` windows of the `whole` of them; any other run has the same count twice
+-- 3 to 5: steps and windows not 0, then the first count over the limit (0 steps, 1 windows, 2 warm-up). A run that goes on makes `later` windows of `total`; any other run has the same count twice
 abbrev pub limit-tests : ℕ → ℕ → ℕ → ℕ → List Test
-limit-tests steps later whole warm-up =
+limit-tests steps later total warm-up =
     test (ltb 0 steps) 3 0
     ∷ test (ltb 0 later) 4 0
     ∷ test (leb steps limit) 5 0
-    ∷ test (leb whole limit) 5 1
+    ∷ test (leb total limit) 5 1
     ∷ test (leb warm-up limit) 5 2
     ∷ []
 
 -- 1 to 5
 abbrev pub setting-tests : ℕ → Float → ℕ → ℕ → ℕ → ℕ → List Test
-setting-tests K h steps later whole warm-up = top-k-tests K ++ step-size-tests h ++ limit-tests steps later whole warm-up
+setting-tests K h steps later total warm-up = top-k-tests K ++ step-size-tests h ++ limit-tests steps later total warm-up
 
 abbrev pub is-none : Option ℕ → Bool
 is-none none = true
@@ -65,11 +65,11 @@ finite-tests x = test (is-none (first-not-finite x)) 11 (Option·getD (first-not
 abbrev pub state-tests : System → List Float → List Test
 state-tests S x = length-tests S x ++ finite-tests x
 
--- 2 to 11, where the windows of the run are the last of `whole`
+-- 2 to 11, where the windows of the run are the last of `total`
 abbrev pub early-tests : ℕ → Input → List Test
-early-tests whole i =
+early-tests total i =
     step-size-tests (i .step-size)
-    ++ limit-tests (i .steps) (i .windows) whole (i .warm-up)
+    ++ limit-tests (i .steps) (i .windows) total (i .warm-up)
     ++ time-tests (i .time)
     ++ dimension-tests (i .system)
     ++ matrix-tests (i .system) (i .matrix)
@@ -85,10 +85,10 @@ unfoldable pub dynamics : System → List Float → Float → ℕ → Dynamics
 unfolding advance as-float
 dynamics S m h n = record { dim = dim S; advance = λ _ x. advance S m h x; lengths = euclidean; step-size = h; duration = h ⊗ as-float n }
 
--- the windows of the run are the last of `whole`, which nothing but test 5 reads
+-- the windows of the run are the last of `total`, which nothing but test 5 reads
 unfoldable pub problem-within : ℕ → Input → Problem
 unfolding dynamics first-not-finite splitmix64
-problem-within whole i =
+problem-within total i =
     record {
       dynamics = dynamics (i .system) (i .matrix) (i .step-size) (i .steps);
       warm-up-steps = i .steps;
@@ -99,7 +99,7 @@ problem-within whole i =
       time = i .time;
       generator = splitmix64;
       seed = i .seed;
-      tests = early-tests whole i;
+      tests = early-tests total i;
     }
 
 unfoldable pub problem : Input → Problem

@@ -13,9 +13,9 @@ use error::LyapunovError;
 use error::Outcome;
 use system::System;
 
-// The tests 3 to 5. A run that goes on makes `later` windows of the `whole` of them; any other run has the same count twice.
-fn validate_limits(steps: u64, later: u64, whole: u64, warm_up: u64) -> Outcome
-    ensures { λ r. ⌜ reported r ≡ first-failing (Estimate.limit-tests steps later whole «warm_up») ⌝ }
+// The tests 3 to 5. A run that goes on makes `later` windows of `total`; any other run has the same count twice.
+fn validate_limits(steps: u64, later: u64, total: u64, warm_up: u64) -> Outcome
+    ensures { λ r. ⌜ reported r ≡ first-failing (Estimate.limit-tests steps later total «warm_up») ⌝ }
 {
     let some_steps = error::test(0 < steps, LyapunovError::ZeroStepsPerWindow);
     let some_windows = error::test(0 < later, LyapunovError::ZeroWindows);
@@ -24,7 +24,7 @@ fn validate_limits(steps: u64, later: u64, whole: u64, warm_up: u64) -> Outcome
         LyapunovError::CountAboveLimit(0),
     );
     let windows = error::test(
-        whole <= crate::COUNT_LIMIT,
+        total <= crate::COUNT_LIMIT,
         LyapunovError::CountAboveLimit(1),
     );
     let warm_up = error::test(
@@ -43,14 +43,14 @@ pub fn validate_settings(
     step_size: f64,
     steps: u64,
     later: u64,
-    whole: u64,
+    total: u64,
     warm_up: u64,
 ) -> Outcome
-    ensures { λ r. ⌜ reported r ≡ first-failing (Estimate.setting-tests «top_k» «step_size» steps later whole «warm_up») ⌝ }
+    ensures { λ r. ⌜ reported r ≡ first-failing (Estimate.setting-tests «top_k» «step_size» steps later total «warm_up») ⌝ }
 {
     let top_k = error::test(0 < top_k, LyapunovError::ZeroTopK);
     let step_size = system::validation::validate_step_size(step_size);
-    let limits = validate_limits(steps, later, whole, warm_up);
+    let limits = validate_limits(steps, later, total, warm_up);
     let rest = error::first_refusal(step_size, limits);
     error::first_refusal(top_k, rest)
 }
@@ -121,23 +121,23 @@ pub fn validate_outputs(
     error::first_refusal(rows, rest)
 }
 
-// The tests 1 to 12. The windows of the settings are the last of `whole`; any other run than one that goes on has the same count twice.
+// The tests 1 to 12. The windows of the settings are the last of `total`; any other run than one that goes on has the same count twice.
 pub fn validate_input(
     system: System,
     matrix: &[f64],
     time: f64,
     state: &[f64],
     config: BenettinConfig,
-    whole: u64,
+    total: u64,
 ) -> Outcome
-    ensures { λ r. ⌜ reported r ≡ first-failing (Run.input-tests (Estimate.problem-within whole (Estimate.input system (now (matrix .entry)) time (now (state .entry)) config)) (config .«top_k»)) ⌝ }
+    ensures { λ r. ⌜ reported r ≡ first-failing (Run.input-tests (Estimate.problem-within total (Estimate.input system (now (matrix .entry)) time (now (state .entry)) config)) (config .«top_k»)) ⌝ }
 {
     let settings = validate_settings(
         config.top_k,
         config.step_size,
         config.steps_per_window,
         config.windows,
-        whole,
+        total,
         config.transient_windows,
     );
     let time = system::validation::validate_time(time);
@@ -159,15 +159,15 @@ pub fn validate(
     time: f64,
     state: &[f64],
     config: BenettinConfig,
-    whole: u64,
+    total: u64,
     rows: usize,
     exponents: usize,
     last: usize,
 ) -> Outcome
     ensures { λ r. ⌜ reported r ≡ first-failing
-        (Run.run-tests (Estimate.problem-within whole (Estimate.input system (now (matrix .entry)) time (now (state .entry)) config)) (config .«top_k») (Run.lengths rows exponents last)) ⌝ }
+        (Run.run-tests (Estimate.problem-within total (Estimate.input system (now (matrix .entry)) time (now (state .entry)) config)) (config .«top_k») (Run.lengths rows exponents last)) ⌝ }
 {
-    let input = validate_input(system, matrix, time, state, config, whole);
+    let input = validate_input(system, matrix, time, state, config, total);
     let outputs = validate_outputs(system, config.top_k, config.windows, rows, exponents, last);
     error::first_refusal(input, outputs)
 }

@@ -31,7 +31,7 @@ pub record Bounded (k made measured : ℕ) (p : Progress) : Type 0 where
   pub windows : p .windows ≤ measured
   pub faint : (i : ℕ) → getD (p .faint) i 0 ≤ made
 
--- the most windows that a run under way is asked to have made: room for the counts of one run in another
+-- No run under way has made more windows than this: a warm-up and two sets of measured windows, each within the limit, are fewer.
 abbrev pub most : ℕ
 most = 4 * limit
 

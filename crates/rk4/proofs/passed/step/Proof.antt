@@ -21,8 +21,9 @@ same-length-2 c = search needs
 
 returns : tie.Need-returns
 returns c =
-    let o = found (c .before .before .before .first-not-finite .ensures) _ (c .before .i .given .1) in
-    answered (rw (← o)) (c .before .before .before .before .before .before .before .before .before .advance-values .ensures)
+    let b = c .before .before .before in
+    let o = found (b .first-not-finite .ensures) _ (c .before .i .given .1) in
+    answered (rw (← o)) (b .before .before .before .before .before .before .advance-values .ensures)
 
 enum-told : tie.Need-enum-told
 enum-told c = search needs
