@@ -22,7 +22,7 @@ use Rattle.floats.specs.Arithmetic.{_⊕_, zero⁺}
 use Rattle.floats.proofs.Updated.{map-take, zip-take}
 use Rattle.floats.proofs.Vector.{Sized, length-concat, map-sized}
 use Rattle.system.specs.System.{dim}
-use Rattle.rk4.proofs.Lengths.{direction-length}
+use Rattle.rk4.proofs.Advance.{direction-length}
 use Rattle.gram_schmidt.specs.Orthonormalise.{Basis, orthonormalise}
 use Rattle.benettin.specs.Run.{Dynamics, Problem, RunState, Status, ok, refused, refused-at, tested, stepped, step, steps, unless-collapsed, reorthonormalise, count-faint, Row, Course}
 use Rattle.benettin.specs.Run.{accumulate, row, initial, check-duration, start-of, course-of, RunAnswer, ended, stopped, answer, OutputLengths, run-past, run, count-tests, output-tests, run-tests}

@@ -13,7 +13,7 @@ use Rattle.error.specs.Tests.{Test, first-failing}
 use Rattle.error.specs.declared.Refusal.{Refusal}
 use Rattle.system.specs.System.{dim}
 use Rattle.system.specs.declared.System.{System}
-use Rattle.rk4.proofs.Lengths.{state-length}
+use Rattle.rk4.proofs.Advance.{state-length}
 use Rattle.gram_schmidt.proofs.Finished.{sets-start}
 use Rattle.benettin.specs.Run.{Dynamics, Row, Course, Status, ok, refused, Spectrum, RunRefusal, RunAnswer, ended, stopped, answer, no-faint, OutputLengths, run-tests, course-of, run-past, run}
 use Rattle.benettin.specs.Estimate.{Input, problem, dynamics, estimate}

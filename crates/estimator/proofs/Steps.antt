@@ -24,7 +24,7 @@ use Rattle.system.specs.System.{dim}
 use Rattle.system.specs.declared.System.{System}
 use Rattle.rk4.specs.Step.{Stepped, advance, advanced, not-finite, observed}
 use Rattle.rk4.specs.Tests.{Passed}
-use Rattle.rk4.proofs.Lengths.{direction-length}
+use Rattle.rk4.proofs.Advance.{direction-length}
 use Rattle.benettin.specs.Run.{Dynamics, RunState, Norms, Totals, Status, ok, refused, refused-at, tested, step, steps, _then_}
 use Rattle.benettin.specs.Estimate.{dynamics}
 use Rattle.estimator.specs.Progress.{motion, joined}

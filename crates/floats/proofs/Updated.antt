@@ -1,12 +1,12 @@
 -- Lists entry by entry: a map, a zip, and an update in place. Lengths, entries, fronts, and what a loop goes by.
 use Prim.Native.Nat.{ℕ, zero, suc, _+_, _≤_, _<_}
-use native.Mathlib.Nat.{add-zero, not-suc-le-zero, le-of-suc-le-suc}
+use native.Mathlib.Nat.{not-suc-le-zero, le-of-suc-le-suc}
 use native.Mathlib.Numerals.{add-one}
 use native.Mathlib.Omega.{arith}
 use mathlib.Core.Path.{_≡_, refl, sym, ap, _∙_}
 use mathlib.Core.List.{List, [], _∷_, _++_, map}
 use lib.ListN.{length, take, drop, getD, set, drop-of-length-le, take-append-drop}
-use lib.Seq.{drop-cons, take-suc-set, drop-set-lt, append-snoc, set-getD, getD-drop}
+use lib.Seq.{drop-cons, take-suc-set, drop-set-lt, append-snoc, set-getD}
 use Rattle.floats.specs.Vector.{zip, updated}
 
 -- ---- a map
@@ -36,13 +36,6 @@ module _ {a b c} {A : Type a} {B : Type b} {C : Type c} (f : A → B → C) wher
   zip-take (suc k) (x ∷ l) [] = refl
   zip-take (suc k) (x ∷ l) (y ∷ m) = ap (λ t. f x y ∷ t) (zip-take k l m)
 
-  pub zip-at : (l : List A) (m : List B) (i : ℕ) (x : A) (y : B) (z : C) → i < length l → i < length m → getD (zip f l m) i z ≡ f (getD l i x) (getD m i y)
-  unfolding zip
-  zip-at [] m i x y z h g = absurd (not-suc-le-zero h)
-  zip-at (v ∷ l) [] i x y z h g = absurd (not-suc-le-zero g)
-  zip-at (v ∷ l) (w ∷ m) zero x y z h g = refl
-  zip-at (v ∷ l) (w ∷ m) (suc i) x y z h g = zip-at l m i x y z (le-of-suc-le-suc h) (le-of-suc-le-suc g)
-
   pub zip-length : (l : List A) (m : List B) (n : ℕ) → length l ≡ n → length m ≡ n → length (zip f l m) ≡ n
   unfolding zip
   zip-length [] m n h g = h
@@ -70,31 +63,12 @@ module _ {a b} {A : Type a} {B : Type b} (f : A → B → A) where
   updated-length (x ∷ xs) [] = refl
   updated-length (x ∷ xs) (y ∷ ys) = ap suc (updated-length xs ys)
 
-  -- the first entries need only those of both lists
-  pub updated-front : (n : ℕ) (xs : List A) (ys : List B) → take n (updated f xs ys) ≡ updated f (take n xs) (take n ys)
-  unfolding updated
-  updated-front zero xs ys = refl
-  updated-front (suc n) [] ys = refl
-  updated-front (suc n) (x ∷ xs) [] = refl
-  updated-front (suc n) (x ∷ xs) (y ∷ ys) = ap (λ t. f x y ∷ t) (updated-front n xs ys)
-
-  -- as many entries of the second list as the first has
-  pub updated-few : (xs : List A) (ys : List B) → updated f xs ys ≡ updated f xs (take (length xs) ys)
-  unfolding updated
-  updated-few [] ys = refl
-  updated-few (x ∷ xs) [] = refl
-  updated-few (x ∷ xs) (y ∷ ys) = ap (λ t. f x y ∷ t) (updated-few xs ys)
-
   updated-rest : (n : ℕ) (xs : List A) (ys : List B) → drop n (updated f xs ys) ≡ updated f (drop n xs) (drop n ys)
   unfolding updated
   updated-rest zero xs ys = refl
   updated-rest (suc n) [] ys = refl
   updated-rest (suc n) (x ∷ xs) [] = sym (updated-none (drop n xs))
   updated-rest (suc n) (x ∷ xs) (y ∷ ys) = updated-rest n xs ys
-
-  pub updated-at : (xs : List A) (ys : List B) (i : ℕ) (x : A) (y : B) → i < length xs → i < length ys → getD (updated f xs ys) i x ≡ f (getD xs i x) (getD ys i y)
-  updated-at xs ys i x y h g =
-      sym (getD-drop i (updated f xs ys) 0 x ∙ rw add-zero) ∙ rw (updated-rest i xs ys, updated-cons xs ys i x y h g)
 
   -- the entries that were gone over, and those behind them
   pub updated-take : (xs : List A) (ys : List B) (k : ℕ) → length ys ≡ k → k ≤ length xs → take k (updated f xs ys) ≡ zip f (take k xs) ys

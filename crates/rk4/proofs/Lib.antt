@@ -1,12 +1,8 @@
 -- Laws, one subject a file.
-pub mod Stage
-pub mod Copy
-pub mod Padding
-pub mod Parts
-pub mod Times
-pub mod Columns
-pub mod Few
-pub mod ClassicalStep
+pub mod Entrywise
+pub mod Moves
+pub mod FourStages
+pub mod Advance
 pub mod Directions
+pub mod Copy
 pub mod Tests
-pub mod Lengths

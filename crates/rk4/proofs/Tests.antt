@@ -1,6 +1,6 @@
 -- A step called alone: what is answered, its tests, and what is known once all are passed.
 use Prim.Native.Nat.{ℕ, _*_, _≤_}
-use mathlib.Core.Path.{_≡_, sym, ap, _∙_}
+use mathlib.Core.Path.{_≡_, ap, _∙_}
 use mathlib.Core.Bool.{true}
 use mathlib.Core.List.{List}
 use mathlib.Core.Option.{Option, none, some}
@@ -14,13 +14,12 @@ use Rattle.error.proofs.Tests.{passed, both-passed}
 use Rattle.floats.specs.Finite.{first-not-finite, index}
 use Rattle.floats.specs.declared.Position.{Position}
 use Rattle.floats.specs.declared.Position.the-variants.{At, Nowhere}
-use Rattle.system.specs.System.{dim, matrix-fits}
+use Rattle.system.specs.System.{dim}
 use Rattle.system.specs.declared.System.{System}
-use Rattle.system.specs.declared.System.the-variants.{Lorenz, Rossler, VanDerPol, Linear}
 use Rattle.system.proofs.Tests.{dimension-passed, matrix-passed, length-passed, time-passed, step-size-passed}
 use Rattle.rk4.specs.Tests.{tangent-tests, step-tests, Passed}
 use Rattle.rk4.specs.Step.{Stepped, not-finite, advanced, stepped}
-use Rattle.rk4.specs.Stages.{Evaluable, tested-finite}
+use Rattle.rk4.specs.Stages.{tested-finite}
 
 -- ---- 16 and 17, by what the code found
 
@@ -42,12 +41,6 @@ tangents-passed : (S : System) (t : List Float) (n : ℕ) → none ≡ first-fai
 tangents-passed S t n e = let p = passed _ _ e in (leb-true _ _ (p .0), eqb-true _ _ (passed _ _ (p .1) .0))
 
 -- ---- all of them
-
-evaluable : (S : System) (m : List Float) → matrix-fits S m ≡ true → dim S ≤ 16 → Evaluable S m
-evaluable (Lorenz σ ρ β) m e h = tt
-evaluable (Rossler a b c) m e h = tt
-evaluable (VanDerPol μ) m e h = tt
-evaluable (Linear d) m e h = (eqb-true (length m) (d * d) e, h)
 
 module _ (S : System) (m : List Float) (time : Float) (x t : List Float) (n : ℕ) (h : Float) where
   pub step-passed : none ≡ first-failing (step-tests S m time x t n h) → Passed S m x n h × (length t ≡ n * dim S) × (finite time ≡ true)
@@ -80,7 +73,3 @@ module _ (S : System) (m : List Float) (time : Float) (x t : List Float) (n : �
   pub stepped-refused : (r : Refusal) → some r ≡ first-failing (step-tests S m time x t n h) → stepped S m time x t n h ≡ record { refusal = some r; state = x; tangents = t }
   unfolding stepped
   stepped-refused r e = rw (← e)
-
--- what the private functions of a step ask for
-pub steppable : {S : System} {m x : List Float} {n : ℕ} {h : Float} (t : List Float) → Passed S m x n h → length t ≡ n * dim S → Evaluable S m × (dim S ≡ length x) × (length t ≡ n * length x)
-steppable {S} {m} t p l = (evaluable S m (p .matrix) (p .dimension-within), sym (p .state), rw (p .state) l)

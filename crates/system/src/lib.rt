@@ -1,15 +1,23 @@
 // The systems of document 01: dimension, vector field and tangent map of each (source: system.rs).
 //
-// Every function equals a definition of specs/System.antt for every input: start reading there. A field or a tangent map
-// comes as an array of 16, with zeros behind its entries (specs/Array.antt). validation.rt tests a system and what is lent
-// beside it (specs/Tests.antt). Crate rk4 has the product with the matrix of a linear system.
+// Every function equals a definition of specs/System.antt: start reading there. `vector_field` and
+// `jacobian_vector_product` evaluate any system. fixed.rt has the formulas of the systems of fixed dimension, columns.rt the
+// product with the matrix of a linear one, validation.rt the tests of a system and of what is lent beside it
+// (specs/Tests.antt). specs/Evaluation.antt only says how the code holds a matrix.
+//
+// Another system adds a case to `System` and to `dim`, `field` and `tangent` of specs/System.antt, an arm to each function
+// below, and its formulas, in fixed.rt or in a file of its own.
+pub mod columns;
+pub mod fixed;
 pub mod validation;
 
 ghost use mathlib.Core.Path.{_≡_};
-ghost use mathlib.Core.List.{[]};
+ghost use mathlib.Core.List.{List};
+ghost use lib.ListN.{length, take};
+ghost use lib.Ieee.{Float};
 ghost use Rattle.system.specs.System.{dim, field, tangent};
 ghost use Rattle.system.specs.System as Spec;
-ghost use Rattle.system.specs.Array.{in16};
+ghost use Rattle.system.specs.Evaluation.{Columns};
 
 // Each choice holds its own parameters. The matrix of a linear system is lent beside it.
 pub enum System {
@@ -57,84 +65,40 @@ pub fn matrix_fits(system: System, matrix: &[f64]) -> bool
     }
 }
 
-pub fn lorenz_field(sigma: f64, rho: f64, beta: f64, s: &[f64; 16]) -> [f64; 16]
-    ensures { λ r. ⌜ r ≡ in16 (field (System.Lorenz sigma rho beta) [] (now (s .entry))) ⌝ }
+// The vector field of any system at x, at the front of `out`. `columns` has the matrix of a linear system, in columns of 16
+// entries. The result is lent and not returned: the caller's arrays are in memory, and a copy of 16 floats costs as much
+// as a small field.
+pub fn vector_field(system: System, columns: &[f64], x: &[f64; 16], out: &mut [f64; 16])
+    requires { ⌜ length (now x) ≡ 16 ⌝ }
+    ensures { λ _. ⌜ (length (now (out .exit)) ≡ 16)
+        × ((m : List Float) → Columns system m (now (columns .entry)) → take (dim system) (now (out .exit)) ≡ field system m (take (dim system) (now (x .entry)))) ⌝ }
 {
-    let x = s[0];
-    let y = s[1];
-    let z = s[2];
-    let mut out = [0.0; 16];
-    out[0] = sigma * (y - x);
-    out[1] = x * (rho - z) - y;
-    out[2] = x * y - beta * z;
-    out
+    if let System::Linear(d) = system {
+        let sums = columns::wide_product(columns, d, x);
+        *out = sums;
+    } else {
+        let entries = fixed::fixed_field(system, x);
+        *out = entries;
+    }
 }
 
-pub fn lorenz_tangent(sigma: f64, rho: f64, beta: f64, s: &[f64; 16], t: &[f64; 16]) -> [f64; 16]
-    ensures { λ r. ⌜ r ≡ in16 (tangent (System.Lorenz sigma rho beta) [] (now (s .entry)) (now (t .entry))) ⌝ }
+// Its tangent map, of the direction t at the state x.
+pub fn jacobian_vector_product(
+    system: System,
+    columns: &[f64],
+    x: &[f64; 16],
+    t: &[f64; 16],
+    out: &mut [f64; 16],
+)
+    requires { ⌜ length (now t) ≡ 16 ⌝ }
+    ensures { λ _. ⌜ (length (now (out .exit)) ≡ 16)
+        × ((m : List Float) → Columns system m (now (columns .entry)) → take (dim system) (now (out .exit)) ≡ tangent system m (take (dim system) (now (x .entry))) (take (dim system) (now (t .entry)))) ⌝ }
 {
-    let x = s[0];
-    let y = s[1];
-    let z = s[2];
-    let u = t[0];
-    let v = t[1];
-    let w = t[2];
-    let mut out = [0.0; 16];
-    out[0] = sigma * (v - u);
-    out[1] = ((rho - z) * u - v) - x * w;
-    out[2] = (y * u + x * v) - beta * w;
-    out
-}
-
-pub fn rossler_field(a: f64, b: f64, c: f64, s: &[f64; 16]) -> [f64; 16]
-    ensures { λ r. ⌜ r ≡ in16 (field (System.Rossler a b c) [] (now (s .entry))) ⌝ }
-{
-    let x = s[0];
-    let y = s[1];
-    let z = s[2];
-    let mut out = [0.0; 16];
-    out[0] = -y - z;
-    out[1] = x + a * y;
-    out[2] = b + z * (x - c);
-    out
-}
-
-// The tangent map does not read b: in the contract c stands in its place.
-pub fn rossler_tangent(a: f64, c: f64, s: &[f64; 16], t: &[f64; 16]) -> [f64; 16]
-    ensures { λ r. ⌜ r ≡ in16 (tangent (System.Rossler a c c) [] (now (s .entry)) (now (t .entry))) ⌝ }
-{
-    let x = s[0];
-    let z = s[2];
-    let u = t[0];
-    let v = t[1];
-    let w = t[2];
-    let mut out = [0.0; 16];
-    out[0] = -v - w;
-    out[1] = u + a * v;
-    out[2] = z * u + (x - c) * w;
-    out
-}
-
-pub fn van_der_pol_field(mu: f64, s: &[f64; 16]) -> [f64; 16]
-    ensures { λ r. ⌜ r ≡ in16 (field (System.VanDerPol mu) [] (now (s .entry))) ⌝ }
-{
-    let x = s[0];
-    let y = s[1];
-    let mut out = [0.0; 16];
-    out[0] = y;
-    out[1] = (mu * (1.0 - x * x)) * y - x;
-    out
-}
-
-pub fn van_der_pol_tangent(mu: f64, s: &[f64; 16], t: &[f64; 16]) -> [f64; 16]
-    ensures { λ r. ⌜ r ≡ in16 (tangent (System.VanDerPol mu) [] (now (s .entry)) (now (t .entry))) ⌝ }
-{
-    let x = s[0];
-    let y = s[1];
-    let u = t[0];
-    let v = t[1];
-    let mut out = [0.0; 16];
-    out[0] = v;
-    out[1] = (((-2.0 * mu) * x) * y - 1.0) * u + (mu * (1.0 - x * x)) * v;
-    out
+    if let System::Linear(d) = system {
+        let sums = columns::wide_product(columns, d, t);
+        *out = sums;
+    } else {
+        let entries = fixed::fixed_tangent(system, x, t);
+        *out = entries;
+    }
 }

@@ -1,11 +1,11 @@
 -- `rk4::passed::step` meets its contract: the first entry that is not finite is what the definition names.
 use borrow.Author.Needs.{needs}
-use Rattle.rk4.proofs.Tests.{found, found-none, answered, steppable}
+use Rattle.rk4.proofs.Tests.{found, found-none, answered}
 use Rattle.rk4.proofs.passed.step.Statement.{statement}
 use Rattle.rk4.proofs.passed.step.Tie as tie
 
 advance-values-requires : tie.Need-advance-values-requires
-advance-values-requires c κs = let s = c .before .before .before .before .before in steppable (s .args .tangents .now) (s .pre .0) (s .pre .1)
+advance-values-requires c κs = c .before .before .before .before .before .pre
 
 first-not-finite-requires : tie.Need-first-not-finite-requires
 first-not-finite-requires c κs = search needs

@@ -1,0 +1,75 @@
+-- What a body of four stages gives for the classical method.
+use Prim.Native.Nat.{ℕ, _≤_}
+use native.Mathlib.Omega.{arith}
+use mathlib.Core.Path.{_≡_, refl, sym, ap, _∙_}
+use mathlib.Core.List.{List, [], _∷_, _++_, map, append-nil}
+use lib.ListN.{length, take, drop, length-take, drop-of-length-le}
+use lib.Seq.{take-all}
+use lib.Ieee.{Float}
+use Rattle.system.specs.Array.{in16}
+use Rattle.system.proofs.Padding.{in16-take}
+use Rattle.rk4.specs.Stepper.{entrywise, stage-points, moved, rk4}
+use Rattle.rk4.specs.Stages.{stage-rule, rule-at}
+use Rattle.rk4.proofs.Entrywise.{entrywise-front, entrywise-base}
+use Rattle.rk4.proofs.Moves.{Computed, moved-front, points-of, computed-points}
+
+-- what `stage_point` leaves: the point t of stage i
+abbrev Pointed : Float → ℕ → List Float → ℕ → List (List Float) → List Float → Type 0
+Pointed h w b i ks t = take w t ≡ entrywise (stage-rule h i) (map (take w) ks) (take w b)
+
+-- the vector x of d entries, of which v are copied into the array b and w are computed: the points and the derivatives of the stages
+pub record Staged (d v w : ℕ) (h : Float) (x b : List Float) (f₁ f₂ f₃ f₄ : List Float → List Float) (t₂ t₃ t₄ k₁ k₂ k₃ k₄ : List Float) : Type 0 where
+  pub sized : length x ≡ d
+  pub copied : d ≤ v
+  pub within : d ≤ w
+  pub padded : b ≡ in16 (take v x)
+  pub derivative₁ : take d k₁ ≡ f₁ (take d b)
+  pub point₂ : Pointed h w b 1 (k₁ ∷ []) t₂
+  pub derivative₂ : take d k₂ ≡ f₂ (take d t₂)
+  pub point₃ : Pointed h w b 2 (k₂ ∷ k₁ ∷ []) t₃
+  pub derivative₃ : take d k₃ ≡ f₃ (take d t₃)
+  pub point₄ : Pointed h w b 3 (k₃ ∷ k₂ ∷ k₁ ∷ []) t₄
+  pub derivative₄ : take d k₄ ≡ f₄ (take d t₄)
+
+module _ {d v w : ℕ} {h : Float} {x b : List Float} {f₁ f₂ f₃ f₄ : List Float → List Float} {t₂ t₃ t₄ k₁ k₂ k₃ k₄ : List Float}
+    (s : Staged d v w h x b f₁ f₂ f₃ f₄ t₂ t₃ t₄ k₁ k₂ k₃ k₄) where
+  computed : Computed d w (s .within) b (rk4 h .points) (f₁ ∷ f₂ ∷ f₃ ∷ f₄ ∷ []) [] (k₄ ∷ k₃ ∷ k₂ ∷ k₁ ∷ [])
+  unfolding Computed rk4 rule-at
+  computed = (
+    k₁,
+    record { point = b; is-point = sym (entrywise-base [] (take w b)); is-derivative = s .derivative₁ },
+    (
+      k₂,
+      record { point = t₂; is-point = s .point₂; is-derivative = s .derivative₂ },
+      (
+        k₃,
+        record { point = t₃; is-point = s .point₃; is-derivative = s .derivative₃ },
+        (k₄, record { point = t₄; is-point = s .point₄; is-derivative = s .derivative₄ }, refl),
+      ),
+    ),
+  )
+
+  start : take d b ≡ x
+  start = rw (s .padded, take-all v x (omega (arith, s .sized, s .copied))) (in16-take x d (s .sized))
+
+  -- n is what the update gives, and y is x with v places copied from it
+  pub four-stages : (n y : List Float) → take w n ≡ entrywise (rk4 h .update) (map (take w) (k₄ ∷ k₃ ∷ k₂ ∷ k₁ ∷ [])) (take w b)
+      → y ≡ take v (take (length x) n) ++ drop v x → y ≡ moved (rk4 h) (f₁ ∷ f₂ ∷ f₃ ∷ f₄ ∷ []) x
+  four-stages n y u e =
+      let ks = k₄ ∷ k₃ ∷ k₂ ∷ k₁ ∷ [] in
+      let fs = f₁ ∷ f₂ ∷ f₃ ∷ f₄ ∷ [] in
+      let l : length (take d n) ≤ v = rw length-take (omega (arith, s .copied)) in
+      let q : length x ≤ v = omega (arith, s .sized, s .copied) in
+      e
+      ∙ rw (s .sized, take-all v (take d n) l, drop-of-length-le x q) (append-nil (take d n))
+      ∙ entrywise-front (rk4 h .update) d w (s .within) ks b n u
+      ∙ moved-front d w (s .within) b (rk4 h) fs ks computed
+      ∙ ap (moved (rk4 h) fs) start
+
+-- ---- the state, whose stages have one map
+
+pub four-points : {d v w : ℕ} {h : Float} {x b : List Float} {f : List Float → List Float} {t₂ t₃ t₄ k₁ k₂ k₃ k₄ : List Float}
+    → Staged d v w h x b f f f f t₂ t₃ t₄ k₁ k₂ k₃ k₄ → map (take d) (b ∷ t₂ ∷ t₃ ∷ t₄ ∷ []) ≡ stage-points (rk4 h .points) f [] x
+unfolding Computed points-of computed rk4 rule-at
+four-points {d} {v} {w} {h} {x} {b} {f} {t₂} {t₃} {t₄} {k₁} {k₂} {k₃} {k₄} s =
+    computed-points d w (s .within) b f (rk4 h .points) [] (k₄ ∷ k₃ ∷ k₂ ∷ k₁ ∷ []) (computed s) ∙ ap (stage-points (rk4 h .points) f []) (start s)

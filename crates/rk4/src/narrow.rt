@@ -1,0 +1,67 @@
+// Linear systems of at most 8 entries: all loops have the literal width 8, so that a vector stays in registers. The state and
+// the directions have the same derivative map, the product with the matrix, and so the same text.
+ghost use mathlib.Core.Path.{_≡_};
+ghost use Prim.Native.Nat.{_*_, _≤_};
+ghost use mathlib.Core.List.{List, map};
+ghost use lib.ListN.{length};
+ghost use lib.Ieee.{Float};
+ghost use Rattle.floats.specs.Vector.{chunks, concat};
+ghost use Rattle.system.specs.System.{times};
+ghost use Rattle.system.specs.Evaluation.{Transposed};
+ghost use Rattle.rk4.specs.Stepper.{rk4, moved};
+ghost use Rattle.rk4.specs.Stages.{Advances, alike};
+use crate::arrays;
+use crate::method;
+use system::System;
+use system::columns;
+
+// The state or a direction.
+fn advance_vector(columns: &[f64], d: usize, v: &mut [f64], h: f64)
+    requires { ⌜ (d ≤ 8) × (8 * d ≤ length (now columns)) × (length (now v) ≡ d) ⌝ }
+    ensures { λ _. ⌜ ((m : List Float) → length m ≡ d * d → Transposed 8 d m (now (columns .entry)) → now (v .exit)
+        ≡ moved (rk4 h) (alike (times (chunks d d m))) (now (v .entry))) ⌝ }
+{
+    let x1 = arrays::zero_padded(v, 8);
+    let k1 = columns::product(columns, d, &x1, 8);
+    let x2 = method::stage_point(1, x1, k1, k1, k1, h, 8);
+    let k2 = columns::product(columns, d, &x2, 8);
+    let x3 = method::stage_point(2, x1, k1, k2, k2, h, 8);
+    let k3 = columns::product(columns, d, &x3, 8);
+    let x4 = method::stage_point(3, x1, k1, k2, k3, h, 8);
+    let k4 = columns::product(columns, d, &x4, 8);
+    let next = method::update(x1, k1, k2, k3, k4, h, 8);
+    arrays::copy_front(v, next, 8);
+}
+
+// Vectors that lie one after the other.
+fn advance_vectors(columns: &[f64], d: usize, vectors: &mut [f64], count: usize, h: f64)
+    requires { ⌜ (d ≤ 8) × (8 * d ≤ length (now columns)) × (length (now vectors) ≡ count * d) ⌝ }
+    ensures { λ _. ⌜ ((m : List Float) → length m ≡ d * d → Transposed 8 d m (now (columns .entry)) → now (vectors .exit)
+        ≡ concat (map (moved (rk4 h) (alike (times (chunks d d m)))) (chunks d count (now (vectors .entry))))) ⌝ }
+{
+    let mut j = 0usize;
+    while j < count {
+        let a = j * d;
+        let e = a + d;
+        advance_vector(columns, d, &mut vectors[a..e], h);
+        j += 1;
+    }
+}
+
+// The state and every direction. The matrix is transposed first.
+pub fn advance_narrow(
+    matrix: &[f64],
+    d: usize,
+    state: &mut [f64],
+    tangents: &mut [f64],
+    count: usize,
+    h: f64,
+)
+    requires { ⌜ (d ≤ 8) × (length (now matrix) ≡ d * d) × (length (now state) ≡ d) × (length (now tangents) ≡ count * d) ⌝ }
+    ensures { λ _. ⌜ Advances (System.Linear d) (now (matrix .entry)) h (now (state .entry)) (now (tangents .entry)) count (now (state .exit)) (now (tangents .exit)) ⌝ }
+{
+    let mut columns = [0.0; 64];
+    columns::transpose(matrix, d, 8, &mut columns);
+    advance_vector(&columns, d, state, h);
+    advance_vectors(&columns, d, tangents, count, h);
+}
