@@ -35,12 +35,12 @@ pub fn rossler() -> Problem {
     }
 }
 
-pub fn van_der_pol() -> Problem {
+pub fn van_der_pol(top_k: usize) -> Problem {
     Problem {
-        name: "van der Pol K=1".into(),
+        name: format!("van der Pol K={top_k}"),
         system: System::VanDerPol { mu: 1.0 },
         state: vec![2.0, 0.0],
-        top_k: 1,
+        top_k,
         ..lorenz()
     }
 }

@@ -23,13 +23,13 @@ impl Counts {
 pub fn races(source: Reference) -> Result<Vec<Race>, String> {
     let counts = |steps, windows| Counts { steps, windows };
     let problems = [
-        (lorenz(), counts(10, 6_000), 0.75),
-        (rossler(), counts(10, 6_000), 0.75),
-        (lorenz(), counts(1, 20_000), 0.85),
-        (rossler(), counts(1, 20_000), 0.85),
-        (van_der_pol(), counts(10, 10_000), 0.7),
-        (linear(16, 16), counts(10, 120), 0.9),
-        (linear(3, 3), counts(10, 6_000), 1.0),
+        (lorenz(), counts(10, 6_000), 0.6),
+        (rossler(), counts(10, 6_000), 0.6),
+        (lorenz(), counts(1, 20_000), 0.8),
+        (rossler(), counts(1, 20_000), 0.8),
+        (van_der_pol(1), counts(10, 10_000), 0.6),
+        (linear(16, 16), counts(10, 120), 0.6),
+        (linear(3, 3), counts(10, 6_000), 0.75),
     ];
     let race = |(mut problem, counts, target): (Problem, Counts, f64)| {
         problem.step_size = 0.01;

@@ -8,15 +8,16 @@ use std::hint::black_box;
 
 pub fn races(source: Reference) -> Result<Vec<Race>, String> {
     let problems = [
-        (lorenz(), 20_000, 0.8),
-        (rossler(), 20_000, 0.8),
-        (van_der_pol(), 40_000, 0.8),
-        (linear(16, 16), 400, 0.8),
-        (linear(3, 3), 20_000, 1.1),
-        (linear(1, 1), 20_000, 1.0),
-        (linear(2, 2), 20_000, 1.0),
-        (linear(4, 4), 10_000, 1.0),
-        (linear(8, 8), 4_000, 1.0),
+        (lorenz(), 20_000, 0.6),
+        (rossler(), 20_000, 0.6),
+        (van_der_pol(1), 40_000, 0.65),
+        (van_der_pol(2), 40_000, 0.65),
+        (linear(16, 16), 400, 0.5),
+        (linear(3, 3), 20_000, 0.75),
+        (linear(1, 1), 20_000, 0.75),
+        (linear(2, 2), 20_000, 0.75),
+        (linear(4, 4), 10_000, 0.75),
+        (linear(8, 8), 4_000, 0.75),
     ];
     let race = |(problem, steps, target)| race(source, problem, steps, target);
     problems.into_iter().map(race).collect()
