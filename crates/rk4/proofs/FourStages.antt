@@ -14,8 +14,8 @@ use Rattle.rk4.proofs.Entrywise.{entrywise-front, entrywise-base}
 use Rattle.rk4.proofs.Moves.{Computed, moved-front, points-of, computed-points}
 
 -- what `stage_point` leaves: the point t of stage i
-abbrev Pointed : Float → ℕ → List Float → ℕ → List (List Float) → List Float → Type 0
-Pointed h w b i ks t = take w t ≡ entrywise (stage-rule h i) (map (take w) ks) (take w b)
+abbrev Point : Float → ℕ → List Float → ℕ → List (List Float) → List Float → Type 0
+Point h w b i ks t = take w t ≡ entrywise (stage-rule h i) (map (take w) ks) (take w b)
 
 -- the vector x of d entries, of which v are copied into the array b and w are computed: the points and the derivatives of the stages
 pub record Staged (d v w : ℕ) (h : Float) (x b : List Float) (f₁ f₂ f₃ f₄ : List Float → List Float) (t₂ t₃ t₄ k₁ k₂ k₃ k₄ : List Float) : Type 0 where
@@ -24,11 +24,11 @@ pub record Staged (d v w : ℕ) (h : Float) (x b : List Float) (f₁ f₂ f₃ f
   pub within : d ≤ w
   pub padded : b ≡ in16 (take v x)
   pub derivative₁ : take d k₁ ≡ f₁ (take d b)
-  pub point₂ : Pointed h w b 1 (k₁ ∷ []) t₂
+  pub point₂ : Point h w b 1 (k₁ ∷ []) t₂
   pub derivative₂ : take d k₂ ≡ f₂ (take d t₂)
-  pub point₃ : Pointed h w b 2 (k₂ ∷ k₁ ∷ []) t₃
+  pub point₃ : Point h w b 2 (k₂ ∷ k₁ ∷ []) t₃
   pub derivative₃ : take d k₃ ≡ f₃ (take d t₃)
-  pub point₄ : Pointed h w b 3 (k₃ ∷ k₂ ∷ k₁ ∷ []) t₄
+  pub point₄ : Point h w b 3 (k₃ ∷ k₂ ∷ k₁ ∷ []) t₄
   pub derivative₄ : take d k₄ ≡ f₄ (take d t₄)
 
 module _ {d v w : ℕ} {h : Float} {x b : List Float} {f₁ f₂ f₃ f₄ : List Float → List Float} {t₂ t₃ t₄ k₁ k₂ k₃ k₄ : List Float}

@@ -5,9 +5,10 @@
 // makes, and what it leaves in the two slices. specs/Stages.antt only serves the private functions. proofs/Advance.antt and
 // proofs/Tests.antt have what a caller needs: a step keeps every length, and when no test fails.
 //
-// method.rt has the formulas of the method and the loops over them. A vector is moved by one of three bodies, by where its
+// method.rt has the formulas of the method and the loop over them. A vector is moved by one of three bodies, by where its
 // numbers live: fixed.rt (width 3, in registers), narrow.rt (8, in registers) and wide.rt (16, in memory; any system). A
-// method adds its formulas to method.rt, and a system its own to crate system: no body is for one system or one method.
+// method adds its formulas to method.rt, and a system its own to crate system: no body is for one system or one method
+// (docs/DEFINITIONS.md has what each would add).
 mod arrays;
 mod fixed;
 mod method;
