@@ -19,9 +19,9 @@ use Rattle.system.specs.declared.System.{System}
 use Rattle.benettin.specs.Run.{Dynamics, Status, ok, refused, window, warm-up, measured, measured-from, with-row, row, accumulate, _then_}
 use Rattle.benettin.specs.Estimate.{dynamics, limit}
 use Rattle.benettin.specs.Outputs.{flat-row, flat-rows}
-use Rattle.estimator.specs.Progress.{Held, run-state, status}
-use Rattle.estimator.specs.UnderWay.{Fits, Unmeasured, AllMeasured, Windowed, WarmedUp, MeasuredWindow, MeasuredWindows, Recorded, recorded, written, with-row-of}
-use Rattle.estimator.proofs.Bounds.{bounded-up, SameLengths, same-trans, fits-kept, fits-up}
+use Rattle.progress.specs.Progress.{Held, run-state, status}
+use Rattle.progress.specs.UnderWay.{Fits, Unmeasured, AllMeasured, Windowed, WarmedUp, MeasuredWindow, MeasuredWindows, Recorded, recorded, written, with-row-of}
+use Rattle.progress.proofs.Bounds.{bounded-up, SameLengths, same-trans, fits-kept, fits-up}
 
 same-refl : (H : Held) → SameLengths H H
 same-refl H = record { state = refl; tangents = refl; norms = refl }

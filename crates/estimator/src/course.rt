@@ -1,12 +1,11 @@
-// The loops over windows, for the entry points and for other crates of ours: each has a `requires`, as progress.rt has.
+// The loops over windows, for the entry points and for other crates of ours: each has a `requires`, as crate progress has.
 ghost use Prim.Native.Nat.{_*_, _≤_, _+_};
 ghost use lib.ListN.{length};
 ghost use Rattle.benettin.specs.Estimate.{limit};
-ghost use Rattle.estimator.specs.Progress.{held};
-ghost use Rattle.estimator.specs.UnderWay as Under;
-use crate::progress;
-use crate::progress::Progress;
+ghost use Rattle.progress.specs.Progress.{held};
+ghost use Rattle.progress.specs.UnderWay as Under;
 use error::Outcome;
+use progress::Progress;
 use system::System;
 
 // The warm-up windows, if nothing is refused yet.

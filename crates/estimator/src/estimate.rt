@@ -9,7 +9,6 @@ ghost use Rattle.benettin.specs.Estimate as Estimate;
 ghost use Rattle.benettin.specs.Outputs as Outputs;
 ghost use Rattle.benettin.specs.Validation as Validation;
 use crate::course;
-use crate::progress;
 use benettin::BenettinConfig;
 use benettin::SpectrumEstimate;
 use error::Outcome;
@@ -91,12 +90,12 @@ pub fn estimate_spectrum_at(
         exponents.len(),
         final_state.len(),
     ) {
-        return crate::refused(e, 0, 0);
+        return progress::answer::refused(e, 0, 0);
     }
     let d = state.len();
     let kd = config.top_k * d;
     let mut moving = [0.0; 16];
-    crate::copy_to(&mut moving[..d], state);
+    progress::answer::copy_to(&mut moving[..d], state);
     let mut tangents = [0.0; 256];
     run(
         system,

@@ -4,8 +4,8 @@ use native.Mathlib.Omega.{arith}
 use Prim.Native.Nat.{_+_, _-_, _*_, _≤_}
 use mathlib.Core.Path.{_∙_}
 use lib.ListN.{length}
-use Rattle.estimator.specs.Progress.{held}
-use Rattle.estimator.proofs.Bounds.{fits-up}
+use Rattle.progress.specs.Progress.{held}
+use Rattle.progress.proofs.Bounds.{fits-up}
 use Rattle.estimator.proofs.Loops.{Measuring, measuring-start, measuring-next, measuring-refused, measuring-end, row-room, part-many}
 use Rattle.estimator.proofs.course.measure.Statement.{statement}
 use Rattle.estimator.proofs.course.measure.Tie as tie

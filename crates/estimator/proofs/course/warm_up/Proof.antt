@@ -2,8 +2,8 @@
 use borrow.Author.Needs.{needs}
 use native.Mathlib.Omega.{arith}
 use Prim.Native.Nat.{_-_}
-use Rattle.estimator.specs.Progress.{held}
-use Rattle.estimator.proofs.Bounds.{fits-up}
+use Rattle.progress.specs.Progress.{held}
+use Rattle.progress.proofs.Bounds.{fits-up}
 use Rattle.estimator.proofs.Loops.{Warming, warming-start, warming-next, warming-refused, warming-end}
 use Rattle.estimator.proofs.course.warm_up.Statement.{statement}
 use Rattle.estimator.proofs.course.warm_up.Tie as tie

@@ -15,7 +15,7 @@ use Rattle.benettin.specs.Run.{OutputLengths, run-tests, run-past}
 use Rattle.benettin.specs.Outputs.{lengths-of, outputs}
 use Rattle.benettin.specs.Validation.{Ready}
 use Rattle.benettin.proofs.RunTests.{ready}
-use Rattle.estimator.proofs.Ending.{refused-by-tests, run-by-tests, front, few-entries}
+use Rattle.estimator.proofs.WholeRun.{refused-by-tests, run-by-tests, front, few-entries}
 use Rattle.estimator.proofs.estimate.estimate_spectrum_at.Statement.{statement}
 use Rattle.estimator.proofs.estimate.estimate_spectrum_at.Tie as tie
 

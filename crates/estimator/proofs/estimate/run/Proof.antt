@@ -4,10 +4,10 @@ use native.Mathlib.Omega.{arith}
 use mathlib.Core.Path.{refl, ap, _∙_}
 use Prim.Native.Nat.{ℕ, _+_, _*_}
 use Rattle.benettin.specs.Estimate.{Input, input, limit}
-use Rattle.estimator.specs.Progress.{held}
-use Rattle.estimator.specs.UnderWay.{Fits}
-use Rattle.estimator.proofs.Bounds.{bounded-up, fits-up, fits-kept}
-use Rattle.estimator.proofs.Ending.{run-is}
+use Rattle.progress.specs.Progress.{held}
+use Rattle.progress.specs.UnderWay.{Fits}
+use Rattle.progress.proofs.Bounds.{bounded-up, fits-up, fits-kept}
+use Rattle.estimator.proofs.WholeRun.{run-is}
 use Rattle.estimator.proofs.estimate.run.Statement.{statement}
 use Rattle.estimator.proofs.estimate.run.Tie as tie
 
