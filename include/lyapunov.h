@@ -82,8 +82,9 @@
  *   12  top_k is above the dimension
  *   15  the duration of a window, step_size * steps_per_window, is not finite
  * Whoever picks the system:
- *    7  the dimension is 0, or the kind is none of the four
+ *    7  the dimension is 0, or the kind is none of the five
  *    8  the dimension is above LYAPUNOV_MAX_DIMENSION
+ *   25  a ring has 1 to 3 cells; it is tested straight after 8
  *    9  matrix_len is not dimension * dimension (linear systems only)
  * Whoever lends slices:
  *   10  state_len is not the dimension
@@ -136,15 +137,19 @@ extern "C" {
  *                         x' = y, y' = mu (1 - x x) y - x
  *   LYAPUNOV_LINEAR       x' = A x, with A of dimension rows and columns in `matrix`, row by row:
  *                         the entry of row i and column j is matrix[i * dimension + j]
+ *   LYAPUNOV_LORENZ96     a ring of `dimension` equal cells, 4 to 16; p0 the forcing F:
+ *                         x[i]' = (x[i+1] - x[i-2]) x[i-1] - x[i] + F, indices modulo dimension
  *   any other kind        a system of dimension 0, which is refused by 7
  *
- * What a system does not use is not read or tested: p1 and p2 of van der Pol, all three of a linear
- * system, and `dimension` and the matrix of the systems that are not linear.
+ * What a system does not use is not read or tested: p1 and p2 of van der Pol and of a ring, all
+ * three of a linear system, `dimension` of Lorenz, Rossler and van der Pol, and the matrix of the
+ * systems that are not linear.
  */
 #define LYAPUNOV_LORENZ UINT64_C(0)
 #define LYAPUNOV_ROSSLER UINT64_C(1)
 #define LYAPUNOV_VAN_DER_POL UINT64_C(2)
 #define LYAPUNOV_LINEAR UINT64_C(3)
+#define LYAPUNOV_LORENZ96 UINT64_C(4)
 
 /* Places in counts, which a run writes. */
 enum lyapunov_counts {
@@ -194,13 +199,13 @@ enum lyapunov_times {
  * of squares alone: directions whose lengths come to differ by more than the 53 bits of a double
  * within one window can lose their rates although it is 0.
  *
- * ORDER OF TESTS. 1, 2, 3, 4, 5, 6, 7, 8, 9, 10, 11, 12, 13; then the directions are drawn (14) and
- * 15 is tested; then each step tests 16, 17, 18, and each window's end 14.
+ * ORDER OF TESTS. 1, 2, 3, 4, 5, 6, 7, 8, 25, 9, 10, 11, 12, 13; then the directions are drawn (14)
+ * and 15 is tested; then each step tests 16, 17, 18, and each window's end 14.
  *
  * REFUSED. All of counts and times are written by every call. A refused run has faint counts of 0
- * and times of +0.0. Refused by 1 to 13, by 15, or by 14 at the draw, it has written nothing else,
- * and finished and steps are 0. Refused later, it has written the rows of its finished measured
- * windows: counts[LYAPUNOV_FINISHED] rows, and no exponents and no final state.
+ * and times of +0.0. Refused by 1 to 13, by 25, by 15, or by 14 at the draw, it has written nothing
+ * else, and finished and steps are 0. Refused later, it has written the rows of its finished
+ * measured windows: counts[LYAPUNOV_FINISHED] rows, and no exponents and no final state.
  *
  * MORE EXPONENTS. A run for k exponents and one for more, all else equal, agree to the bit in all
  * that both report, unless the larger one is refused at a direction numbered k or above.
@@ -251,8 +256,8 @@ uint64_t lyapunov_build_config(
     uint64_t *place);
 
 /*
- * Tests what a run is handed, apart from its outputs, without running: 1 to 12, in this order. The
- * arguments are those of a run, which tests them again. Only *place is written.
+ * Tests what a run is handed, apart from its outputs, without running: 1 to 12, in this order, with
+ * 25 after 8. The arguments are those of a run, which tests them again. Only *place is written.
  */
 uint64_t lyapunov_validate(
     uint64_t kind, double p0, double p1, double p2,
@@ -272,7 +277,7 @@ uint64_t lyapunov_validate(
  *   count                0 to 16; it may be above the dimension
  *   step_size            finite and above 0
  *
- * Tests in this order: 7, 8, 9, 10, 19, 6, 2; refused by one of these, only *place is written.
+ * Tests in this order: 7, 8, 25, 9, 10, 19, 6, 2; refused by one of these, only *place is written.
  * After the move 16 and 17 are tested; refused by one of them, both slices hold the new values.
  */
 uint64_t lyapunov_step(
@@ -372,7 +377,7 @@ static inline struct lyapunov_const_slice lyapunov_lent_const(const double *at, 
     return slice;
 }
 
-/* A system with its parameters, see THE SYSTEM above. Make it by one of the four functions. */
+/* A system with its parameters, see THE SYSTEM above. Make it by one of the five functions. */
 struct lyapunov_system {
     uint64_t kind;
     double p0, p1, p2;
@@ -416,6 +421,15 @@ static inline struct lyapunov_system lyapunov_linear(
     system.kind = LYAPUNOV_LINEAR;
     system.dimension = dimension;
     system.matrix = matrix;
+    return system;
+}
+
+/* A ring of 4 to 16 cells. */
+static inline struct lyapunov_system lyapunov_lorenz96(size_t cells, double forcing)
+{
+    struct lyapunov_system system = lyapunov_lorenz(forcing, 0.0, 0.0);
+    system.kind = LYAPUNOV_LORENZ96;
+    system.dimension = cells;
     return system;
 }
 
@@ -686,6 +700,7 @@ static inline const char *lyapunov_refusal_text(uint64_t number)
         "An exponent is not finite.",
         "The number of bytes is not a multiple of 8.",
         "The logarithm is of a number that is not positive, normal and finite.",
+        "The ring has fewer than 4 cells.",
     };
     const uint64_t known = sizeof texts / sizeof *texts;
     return number < known ? texts[number] : "No refusal has this number.";

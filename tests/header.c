@@ -172,7 +172,7 @@ static void steps(const struct trial *t)
     check(refusal.number == 10 && refusal.place == 0, "no state to step", t->name);
 }
 
-/* Both forms of the tests 1 to 12 answer so. */
+/* Both forms of the tests 1 to 12 and 25 answer so. */
 static void validated(const struct trial *t, double time, const double *state, size_t state_len,
                       const struct lyapunov_settings *s, uint64_t number, uint64_t place)
 {
@@ -259,6 +259,9 @@ static void systems(void)
          LYAPUNOV_LINEAR, {1.0, 2.0, 3.0}, turning, 9, {1.0, -1.0, 0.5}, 3, 2, 5, 1},
         {"faint", lyapunov_linear(1, lyapunov_lent_const(shrinking, 1)),
          LYAPUNOV_LINEAR, {0.0, 0.0, 0.0}, shrinking, 1, {1.0}, 1, 270, 1, 1},
+        /* The flat arguments lend it a matrix, which it does not read. */
+        {"ring", lyapunov_lorenz96(5, 8.0),
+         LYAPUNOV_LORENZ96, {8.0, 3.0, 3.0}, turning, 9, {8.0, 8.5, 7.0, 8.0, 9.0}, 5, 3, 2, 7},
     };
     size_t i;
     for (i = 0; i < sizeof trials / sizeof *trials; i++) {
@@ -268,6 +271,35 @@ static void systems(void)
         validation(&trials[i]);
         empty(&trials[i]);
     }
+}
+
+/* The number of cells is tested before the state, which fits no ring. */
+static void cells_refused(size_t cells, uint64_t number)
+{
+    const double none[1] = {0.0};
+    const struct trial t = {"cells", lyapunov_lorenz96(cells, 8.0), LYAPUNOV_LORENZ96,
+                            {8.0, 0.0, 0.0}, none, 0, {1.0, 2.0}, cells, 3, 0, 1};
+    struct lyapunov_settings settings = settings_of(&t);
+    double state[2] = {1.0, 2.0};
+    struct lyapunov_refusal refusal;
+
+    settings.required.top_k = 1;
+    validated(&t, 2.5, state, 2, &settings, number, 0);
+    refusal = lyapunov_step_system(&t.system, 0.0, lyapunov_lent(state, 2),
+                                   lyapunov_lent(NULL, 0), 0, 0.25);
+    check(refusal.number == number && refusal.place == 0, "a step", t.name);
+}
+
+static void cells(void)
+{
+    size_t few;
+    cells_refused(0, 7);
+    for (few = 1; few < 4; few++)
+        cells_refused(few, 25);
+    cells_refused(4, 10);
+    cells_refused(16, 10);
+    cells_refused(17, 8);
+    cells_refused(SIZE_MAX, 8);
 }
 
 static void builder(void)
@@ -316,25 +348,27 @@ static void refused_settings(void)
 /* Each number has a sentence of its own. */
 static void texts(void)
 {
-    const char *unknown = lyapunov_refusal_text(25);
+    const char *unknown = lyapunov_refusal_text(26);
     uint64_t i, j;
-    for (i = 0; i <= 24; i++) {
+    for (i = 0; i <= 25; i++) {
         const char *text = lyapunov_refusal_text(i);
         check(strlen(text) > 10 && text[strlen(text) - 1] == '.', text, "a sentence");
         check(strcmp(text, unknown) != 0, text, "a known number");
         for (j = 0; j < i; j++)
             check(strcmp(text, lyapunov_refusal_text(j)) != 0, text, "another text");
     }
-    check(strcmp(unknown, "No refusal has this number.") == 0, unknown, "25");
+    check(strcmp(unknown, "No refusal has this number.") == 0, unknown, "26");
     check(lyapunov_refusal_text(UINT64_MAX) == unknown, unknown, "the largest number");
     check(strstr(lyapunov_refusal_text(14), "collapsed") != NULL, "collapse", "14");
     check(strstr(lyapunov_refusal_text(21), "256") != NULL, "rates", "21");
     check(strstr(lyapunov_refusal_text(24), "logarithm") != NULL, "logarithm", "24");
+    check(strstr(lyapunov_refusal_text(25), "cells") != NULL, "cells", "25");
 }
 
 int main(void)
 {
     systems();
+    cells();
     builder();
     refused_settings();
     texts();

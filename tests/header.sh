@@ -76,4 +76,9 @@ wrong 's/^    built\.settings\.seed = LYAPUNOV_DEFAULT_SEED/    built.settings.s
 wrong 's/lyapunov_lent\(nothing, 0\) : slice/lyapunov_lent(nothing, slice.length) : slice/'
 wrong 's/estimate\.faint_counts\[i\] = run->counts\[LYAPUNOV_FAINT \+ i\]/estimate.faint_counts[i] = 0/'
 wrong 's/"The time is not finite\."/"The time became not finite."/'
+wrong 's/lyapunov_lorenz\(forcing, /lyapunov_lorenz((double)cells, /; s/^    system\.dimension = cells/    system.dimension = (size_t)forcing/'
+wrong 's/^    system\.dimension = cells/    system.dimension = cells + 1/'
+wrong 's/^    system\.kind = LYAPUNOV_LORENZ96/    system.kind = LYAPUNOV_LORENZ/'
+wrong 's/^(#define LYAPUNOV_LORENZ96 UINT64_C)\(4\)/\1(5)/'
+wrong 's/^(#define LYAPUNOV_LORENZ96 UINT64_C)\(4\)/\1(3)/'
 echo "$noticed wrong headers, each noticed"

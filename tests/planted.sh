@@ -60,6 +60,8 @@ refused='^run .*num=1[123] .* rows=\.,.* exps=\..* final=\.'
 late='^run .*num=1[4678] .* finished=[1-9].* rows=[0-9a-f]{16}.*,\.'
 orth='^orth .*num=0 .*dirs=[0-9a-f]{16},.*numbers=[0-9a-f]{16},'
 step='^step .*sys=linear.*num=0 .*state=[0-9a-f]{16},.*dirs=[0-9a-f]{16},'
+ring='^step .*sys=lorenz96:[0-9]+ par=4.*num=0 .*state=[0-9a-f]{16},.*dirs=[0-9a-f]{16},'
+few_cells='^step .*sys=lorenz96:[123] .*num=25 '
 x='[0-9a-f]{16}'
 
 # Answered lists: an entry changed, kept in place of written and the reverse, one more, one less.
@@ -129,6 +131,14 @@ answer '^prog .*out=4' 's/(out=[0-9a-f]*)[|].*/\1/' 'spectrum: prints 4'
 answer '^prog .*out=refused_21_0' 's/21_0/21_1/' 'prints refused_21_0, listed refused_21_1'
 answer '^prog .*out=refused_20_0' 's/20_0/20_0|/' 'prints refused_20_0, listed refused_20_0|'
 
+# Rings of other cells or another forcing, and another answer to few cells.
+answer "$ring" 's/(sys=lorenz96:)[0-9]*/\13/' 'num, entry 0: 25, listed 0'
+answer "$ring" 's/(sys=lorenz96:)[0-9]*/\117/' 'num, entry 0: 8, listed 0'
+answer "$ring" "s/( par=)$x/\17ff8000000000000/" 'num, entry 0: 16, listed 0'
+answer "$few_cells" 's/num=25/num=10/' 'num, entry 0: 25, listed 10'
+answer "$few_cells" 's/(-> .*place=)0/\11/' 'place: 0, listed 1'
+answer '^run .*num=25 ' 's/num=25/num=7/' 'num, entry 0: 25, listed 7'
+
 # Lines and lists that do not read.
 answer '^run' 's/ -> / /' 'malformed line 1: no answer'
 answer '^run' 's/ K=/ -> K=/' 'malformed line 1: two arrows'
@@ -142,6 +152,10 @@ answer '^run' 's/ h=[0-9a-f]/ h=/' 'malformed line 1: no 16 hexadecimal digits'
 answer '^run' 's/ K=/ K/' 'malformed line 1: no field: K'
 answer '^run .*sys=linear' 's/sys=linear/sys=duffing/' 'malformed line 1: unknown system'
 answer '^run .*sys=linear' 's/par=-/par=3ff0000000000000/' 'malformed line 1: so many parameters'
+answer "$ring" 's/sys=lorenz96:/sys=lorenz96/' 'malformed line 1: unknown system'
+answer "$ring" 's/sys=lorenz96:[0-9]*/sys=lorenz96:/' 'malformed line 1: no decimal number'
+answer "$ring" 's/sys=lorenz96:/sys=lorenz:/' 'malformed line 1: unknown system'
+answer "$ring" "s/( par=)$x/\1-/" 'malformed line 1: so many parameters'
 answer '^prog .*bytes=0' 's/bytes=0/bytes=/' 'malformed line 1: no bytes'
 printf '# a remark\n\n' >"$list" && must_notice 'a list of no cases' '0 of 0 cases replayed'
 first '^root' | tr -d '\n' >"$list" && must_notice 'a list that ends inside a line' 'line 1: no end'
@@ -193,6 +207,24 @@ wrong "$from_zero" 'from time one' 'lyapunov_estimate_spectrum: ftime'
 wrong "$from_zero" 'another seed' 'lyapunov_estimate_largest: '
 wrong "$from_zero" 'one warm-up' 'lyapunov_estimate_largest: made'
 wrong "$(first '^rates .*num=0')" 'dimension for entropy' 'lyapunov_kolmogorov_sinai_entropy: ent'
+
+# Libraries that take a ring otherwise. A ring reads no matrix: one of NaNs that a linear system would
+# accept is lent to it.
+a_ring=$(first "$ring")
+cells=$(sed -E 's/.*sys=lorenz96:([0-9]+) .*/\1/' <<<"$a_ring")
+matrix=$(seq $((cells * cells)) | sed 's/.*/7ff8000000000000/' | paste -sd,)
+with_matrix=$(sed -E "s/ mat=[^ ]*/ mat=$matrix/" <<<"$a_ring")
+no_state=$(first "$few_cells" | sed -E 's/ state=[^ ]*/ state=-/g')
+wrong "$a_ring" 'ring as Lorenz' 'num, entry 0: 10, listed 0'
+wrong "$with_matrix" 'ring as linear' 'num, entry 0: 16, listed 0'
+wrong "$a_ring" 'ring unknown' 'num, entry 0: 7, listed 0'
+wrong "$a_ring" 'forcing second' 'state, entry 0: '
+wrong "$a_ring" 'neighbours turned' 'state, entry 0: '
+wrong "$(first "$few_cells")" 'cells accepted' 'num, entry 0: 0, listed 25'
+wrong "$no_state" 'state before cells' 'num, entry 0: 10, listed 25'
+wrong "$(first '^run .*sys=lorenz96:.*num=0 ')" 'ring unknown' 'num, entry 0: 7, listed 0'
+wrong "$(first '^run .*num=25 ')" 'cells accepted' 'lyapunov_estimate_spectrum_at: num, entry 0: 0'
+wrong "$(first '^run .*num=25 ')" 'input accepted' 'lyapunov_validate: num, entry 0: 0, listed 25'
 
 # Programs: the right answer and then something else.
 stand_in() { # COMMAND MESSAGE: a program that runs the right one and then the command

@@ -125,15 +125,16 @@ typedef struct {
     const lent *matrix;
 } circuit;
 
+/* A system's name ends in a colon where its dimension follows. */
 static circuit read_circuit(void) {
     static const struct { const char *name; size_t parameters; } kinds[] = {
-        {"lorenz", 3}, {"rossler", 3}, {"vdp", 1}, {"linear:", 0}};
-    const char *name = given("sys"), *at = given("par");
+        {"lorenz", 3}, {"rossler", 3}, {"vdp", 1}, {"linear:", 0}, {"lorenz96:", 1}};
+    const char *name = given("sys"), *at = given("par"), *colon = strchr(name, ':');
     circuit c = {0, {0, 0, 0}, 0, lend_list("mat", INPUT)};
-    while (c.kind < 3 && strcmp(name, kinds[c.kind].name) != 0) c.kind++;
-    size_t length = strlen(kinds[c.kind].name);
-    if (strncmp(name, kinds[c.kind].name, length) != 0) malformed("unknown system", name);
-    if (c.kind == LYAPUNOV_LINEAR) c.dimension = decimal(name + length);
+    size_t length = colon == NULL ? strlen(name) : (size_t)(colon + 1 - name);
+    while (strlen(kinds[c.kind].name) != length || strncmp(name, kinds[c.kind].name, length) != 0)
+        if (++c.kind == sizeof kinds / sizeof *kinds) malformed("unknown system", name);
+    if (colon != NULL) c.dimension = decimal(colon + 1);
     if (list_length(at) != kinds[c.kind].parameters) malformed("so many parameters", at);
     for (size_t i = 0; i < kinds[c.kind].parameters; i++) {
         to_entry(&at, i);
@@ -340,7 +341,7 @@ static int run_is(const run *r, uint64_t (*call)(const run *, const outputs *)) 
            (num != 5 || place_is_fixed(r, place));
 }
 
-/* The tests 1 to 12 alone: they pass what is refused by a later one, or by none. */
+/* The tests 1 to 12 and 25 alone: they pass what is refused by a later one, or by none. */
 static int input_is(const run *r) {
     const circuit *c = &r->circuit;
     const lent *place = lend("place", OUTPUT, 1);
@@ -350,7 +351,8 @@ static int input_is(const run *r) {
         r->time, doubles(r->start), r->start->length, r->top_k, r->step_size, r->steps, r->windows,
         r->warm_up, words(place));
     if (!memory_kept()) return 0;
-    if (decimal(answered("num")) <= 12) return refused_as(num, entry(place, 0));
+    uint64_t listed = decimal(answered("num"));
+    if (listed <= 12 || listed == 25) return refused_as(num, entry(place, 0));
     return number_is("num", 0, num, 0) && number_is("place", 0, entry(place, 0), 0);
 }
 

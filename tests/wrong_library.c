@@ -58,6 +58,32 @@ static uint64_t spoiled(uint64_t number) {
     return number;
 }
 
+/* A ring that is taken for another system. */
+static uint64_t taken(uint64_t kind) {
+    if (kind != LYAPUNOV_LORENZ96) return kind;
+    if (is_wrong("ring as", "Lorenz")) return LYAPUNOV_LORENZ;
+    if (is_wrong("ring as", "linear")) return LYAPUNOV_LINEAR;
+    return is_wrong("ring", "unknown") ? kind + 1 : kind;
+}
+
+/* A refusal 25 that is left out, or that comes after 10. */
+static uint64_t of_cells(uint64_t number, size_t dimension, size_t state_len) {
+    if (number != 25) return number;
+    if (is_wrong("cells", "accepted")) return 0;
+    return state_len != dimension && is_wrong("state before", "cells") ? 10 : number;
+}
+
+/* Turns each vector around, so that a cell's neighbours change sides. */
+static void turn(double *at, size_t length, size_t dimension) {
+    if (dimension == 0 || !is_wrong("neighbours", "turned")) return;
+    for (; length >= dimension; at += dimension, length -= dimension)
+        for (size_t i = 0; i < dimension / 2; i++) {
+            double x = at[i];
+            at[i] = at[dimension - 1 - i];
+            at[dimension - 1 - i] = x;
+        }
+}
+
 uint64_t __wrap_lyapunov_ln(double x, double *out) {
     handed("out", out, 1);
     return spoiled(lyapunov_ln(x, out));
@@ -81,8 +107,14 @@ uint64_t __wrap_lyapunov_step(
     handed("state", state, state_len);
     handed("tangents", tangents, tangents_len);
     handed("place", place, 1);
-    return spoiled(lyapunov_step(kind, p0, p1, p2, dimension, matrix, matrix_len, time, state,
-                                 state_len, tangents, tangents_len, count, step_size, place));
+    if (is_wrong("forcing", "second")) p0 = p1;
+    turn(state, state_len, dimension);
+    turn(tangents, tangents_len, dimension);
+    uint64_t n = lyapunov_step(taken(kind), p0, p1, p2, dimension, matrix, matrix_len, time, state,
+                               state_len, tangents, tangents_len, count, step_size, place);
+    turn(state, state_len, dimension);
+    turn(tangents, tangents_len, dimension);
+    return spoiled(of_cells(n, dimension, state_len));
 }
 
 uint64_t __wrap_lyapunov_build_config(
@@ -132,12 +164,12 @@ uint64_t __wrap_lyapunov_estimate_spectrum_at(
     handed_run(matrix, matrix_len, state, state_len, rows, rows_len, exponents, exponents_len,
                final_state, final_state_len, counts, times);
     uint64_t n = lyapunov_estimate_spectrum_at(
-        kind, p0, p1, p2, dimension, matrix, matrix_len, time, state, state_len, top_k, step_size,
-        steps_per_window, windows, transient_windows, seed, rows, rows_len, exponents,
+        taken(kind), p0, p1, p2, dimension, matrix, matrix_len, time, state, state_len, top_k,
+        step_size, steps_per_window, windows, transient_windows, seed, rows, rows_len, exponents,
         exponents_len, final_state, final_state_len, counts, times);
     if (n == 5 && top_k == 17 && is_wrong("place", "by K")) counts[LYAPUNOV_PLACE] = 2;
     if (n == 5 && rows_len == 600 && is_wrong("place", "by outputs")) counts[LYAPUNOV_PLACE] = 2;
-    return spoiled(n);
+    return spoiled(of_cells(n, dimension, state_len));
 }
 
 uint64_t __wrap_lyapunov_estimate_spectrum(

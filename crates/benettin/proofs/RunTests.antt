@@ -96,6 +96,7 @@ module _ (total : ℕ) (i : Input) (K : ℕ) where
             record {
               dimension-above = dimension .0;
               dimension-within = dimension .1;
+              cells = dimension .2;
               matrix = matrix-passed (i .system) (i .matrix) (d .0);
               state = state-passed (i .system) (i .state) (f .0) .0;
               count = omega (arith, count, dimension .1);

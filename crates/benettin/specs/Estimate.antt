@@ -65,7 +65,7 @@ finite-tests x = test (is-none (first-not-finite x)) 11 (Option·getD (first-not
 abbrev pub state-tests : System → List Float → List Test
 state-tests S x = length-tests S x ++ finite-tests x
 
--- 2 to 11, where the windows of the run are the last of `total`
+-- 2 to 11, with 25 behind 8, where the windows of the run are the last of `total`
 abbrev pub early-tests : ℕ → Input → List Test
 early-tests total i =
     step-size-tests (i .step-size)

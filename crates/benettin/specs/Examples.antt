@@ -13,7 +13,7 @@ use Rattle.floats.specs.Vector.{dot-from, zip}
 use Rattle.sqrt.specs.SquareRoot.{root}
 use Rattle.ln.specs.Logarithm.{log}
 use Rattle.splitmix64.specs.Mix.{mix, unit}
-use Rattle.system.specs.declared.System.the-variants.{Lorenz, Linear}
+use Rattle.system.specs.declared.System.the-variants.{Lorenz, Linear, Lorenz96}
 use Rattle.benettin.specs.Run.{RunAnswer, ended, stopped, Row, lengths, faint-or-not}
 use Rattle.gram_schmidt.specs.GramSchmidt.{euclidean}
 use Rattle.benettin.specs.Estimate.{Input, estimate, default-seed, configured, with-warm-up, with-seed}
@@ -87,6 +87,52 @@ lorenz-2 = refl
 pub lorenz-short : answer-bits (estimate lorenz 3 (lengths 13 3 3)) ≡ (13 ∷ 0 ∷ 0 ∷ 0 ∷ []) ∷ (0 ∷ 0 ∷ 0 ∷ []) ∷ []
 unfolding estimate lorenz root log mix unit dot-from add sub mul div neg round ofInt le lt eq toBits ofBits
 lorenz-short = refl
+
+-- ---- a ring of four cells, one window of one step: demand 3 for K below the number of cells and K at it
+
+unfoldable pub ring-of : ℕ → Input
+unfolding ofInt ofBits
+ring-of n =
+    record {
+      system = Lorenz96 n (whole 8);
+      matrix = [];
+      step-size = bits 0x3f847ae147ae147b;
+      steps = 1;
+      windows = 1;
+      warm-up = 0;
+      seed = default-seed;
+      time = whole 5;
+      state = whole 1 ∷ whole 2 ∷ whole 4 ∷ whole 3 ∷ [];
+    }
+
+abbrev ring-two-rates : List (List ℕ)
+ring-two-rates =
+    (0x40140a3d70a3d70a ∷ 0xc0001b58c231e801 ∷ 0xbfd3134af080b584 ∷ 0xc0001b58c231e801 ∷ 0xbfd3134af080b584 ∷ [])
+    ∷ (0xc0001b58c231e801 ∷ 0xbfd3134af080b584 ∷ [])
+    ∷ (0x3ff027c50964fbf6 ∷ 0x40008f7a670b5a38 ∷ 0x401052378c9e3c3a ∷ 0x400811114fde895b ∷ [])
+    ∷ (0x40140a3d70a3d70a ∷ 0x3f847ae147ae147b ∷ [])
+    ∷ (0 ∷ 0 ∷ []) ∷ (1 ∷ []) ∷ []
+
+-- the run for all four rates, with the last two struck out
+pub ring-4 : answer-bits (leading 2 (estimate (ring-of 4) 4 (lengths 9 4 4))) ≡ ring-two-rates
+unfolding estimate ring-of root log mix unit dot-from add sub mul div neg round ofInt le lt eq toBits ofBits
+ring-4 = refl
+
+-- the run for two rates
+pub ring-2 : answer-bits (estimate (ring-of 4) 2 (lengths 5 2 4)) ≡ ring-two-rates
+unfolding estimate ring-of root log mix unit dot-from add sub mul div neg round ofInt le lt eq toBits ofBits
+ring-2 = refl
+
+-- no cells are refused by 7, 17 by 8 and 3 by 25, before the state, which has another length
+abbrev refused-by : ℕ → List (List ℕ)
+refused-by number = (number ∷ 0 ∷ 0 ∷ 0 ∷ []) ∷ (0 ∷ 0 ∷ []) ∷ []
+
+pub ring-refused : (answer-bits (estimate (ring-of 0) 2 (lengths 5 2 4)) ≡ refused-by 7)
+    × (answer-bits (estimate (ring-of 17) 2 (lengths 5 2 4)) ≡ refused-by 8)
+    × (answer-bits (estimate (ring-of 3) 2 (lengths 5 2 4)) ≡ refused-by 25)
+    × (answer-bits (estimate (ring-of 5) 2 (lengths 5 2 4)) ≡ refused-by 10)
+unfolding estimate ring-of lt ofBits ofInt
+ring-refused = (refl, refl, refl, refl)
 
 -- ---- a shear whose second direction collapses in the first window: demand 3, where the runs differ
 

@@ -41,7 +41,7 @@ pub record Problem : Type 0 where
   pub time : Float
   pub generator : Generator
   pub seed : ℕ
-  -- the tests 2 to 11, which depend on neither K nor the outputs
+  -- the tests 2 to 11 and 25, which depend on neither K nor the outputs
   pub tests : List Test
 
 -- ---- a run under way
@@ -302,11 +302,11 @@ count-tests K d = test (leb K d) 12 0 ∷ []
 abbrev pub output-tests : ℕ → ℕ → ℕ → OutputLengths → List Test
 output-tests K d windows o = test (leb (windows * (1 + 2 * K)) (o .rows)) 13 0 ∷ test (leb K (o .exponents)) 13 1 ∷ test (leb d (o .state)) 13 2 ∷ []
 
--- 1 to 12, which do not depend on the outputs
+-- 1 to 12 and 25, which do not depend on the outputs
 unfoldable pub input-tests : Problem → ℕ → List Test
 input-tests P K = top-k-tests K ++ P .tests ++ count-tests K (P .dynamics .dim)
 
--- 1 to 13, in number order
+-- 1 to 13, in number order, with 25 behind 8
 unfoldable pub run-tests : Problem → ℕ → OutputLengths → List Test
 unfolding input-tests
 run-tests P K o = input-tests P K ++ output-tests K (P .dynamics .dim) (P .windows) o

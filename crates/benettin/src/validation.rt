@@ -1,5 +1,5 @@
-// The tests of a run, 1 to 13: a function for each block of specs/Estimate.antt and of the end of specs/Run.antt. Crate system
-// has the others: the system and what is lent beside it, 2 and 6.
+// The tests of a run, 1 to 13 with 25 behind 8: a function for each block of specs/Estimate.antt and of the end of
+// specs/Run.antt. Crate system has the others: the system and what is lent beside it, 2 and 6.
 ghost use mathlib.Core.Path.{_≡_};
 ghost use Prim.Native.Nat.{_+_, _*_};
 ghost use lib.Dec.{leb};

@@ -35,6 +35,7 @@ pub enum LyapunovError {
     NonFiniteExponent(usize),
     IncompleteBytes,
     LogarithmDomain,
+    TooFewCells,
 }
 
 // What a call answers that may be refused and has no value to give.
@@ -79,6 +80,7 @@ pub fn number(error: LyapunovError) -> u64
         LyapunovError::NonFiniteExponent(_p) => 22,
         LyapunovError::IncompleteBytes => 23,
         LyapunovError::LogarithmDomain => 24,
+        LyapunovError::TooFewCells => 25,
     }
 }
 

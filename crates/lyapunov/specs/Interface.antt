@@ -12,7 +12,7 @@ use Rattle.error.specs.declared.Refusal.{Refusal}
 use Rattle.gram_schmidt.specs.GramSchmidt.{Orthonormalised}
 use Rattle.rk4.specs.Step.{Stepped}
 use Rattle.system.specs.declared.System.{System}
-use Rattle.system.specs.declared.System.the-variants.{Lorenz, Rossler, VanDerPol, Linear}
+use Rattle.system.specs.declared.System.the-variants.{Lorenz, Rossler, VanDerPol, Linear, Lorenz96}
 use Rattle.benettin.specs.Run.{input-tests}
 use Rattle.benettin.specs.Estimate.{Input, problem}
 use Rattle.benettin.specs.Outputs.{Estimated, estimated}
@@ -28,7 +28,8 @@ system kind p₀ p₁ p₂ d =
     cond (eqb kind 0) (Lorenz p₀ p₁ p₂)
     (cond (eqb kind 1) (Rossler p₀ p₁ p₂)
     (cond (eqb kind 2) (VanDerPol p₀)
-    (cond (eqb kind 3) (Linear d) (Linear 0))))
+    (cond (eqb kind 3) (Linear d)
+    (cond (eqb kind 4) (Lorenz96 d p₀) (Linear 0)))))
 
 -- the number that is returned and the place that is written, of what is refused or not
 pub record Refuses (number place : ℕ) (o : Option Refusal) : Type 0 where
@@ -52,7 +53,7 @@ pub record DiagnosticReturns (number place : ℕ) (old out : Float) (a : Answer 
   pub refusal-is : Refuses number place (refusal-in a)
   pub value-is : out ≡ value-or old a
 
--- what the first failing test of 1 to 12 refuses of a run for K rates
+-- what the first failing test of 1 to 12 and 25 refuses of a run for K rates
 abbrev pub input-refusal : Input → ℕ → Option Refusal
 input-refusal i K = first-failing (input-tests (problem i) K)
 

@@ -49,6 +49,12 @@ fn system_of(kind: u64, p0: f64, p1: f64, p2: f64, dimension: usize) -> System
     if kind == 3 {
         return System::Linear(dimension);
     }
+    if kind == 4 {
+        return System::Lorenz96 {
+            cells: dimension,
+            forcing: p0,
+        };
+    }
     System::Linear(0)
 }
 
@@ -211,7 +217,7 @@ pub extern "C" fn lyapunov_build_config(
     }
 }
 
-// The number and the place of the first of the tests 1 to 12 that a run with this input fails. Nothing is run.
+// The number and the place of the first of the tests 1 to 12 and 25 that a run with this input fails. Nothing is run.
 #[no_mangle]
 pub extern "C" fn lyapunov_validate(
     kind: u64,

@@ -11,6 +11,7 @@ use Rattle.error.specs.declared.Outcome.{Outcome}
 use Rattle.floats.specs.Vector.{updated}
 use Rattle.floats.proofs.Updated.{updated-drop, updated-length}
 use Rattle.system.specs.declared.System.{System}
+use Rattle.rk4.proofs.Tests.{passed-kept}
 use Rattle.benettin.specs.Estimate.{limit}
 use Rattle.progress.specs.Progress.{Held, fresh, after-steps, with-faint, with-sums, counted}
 use Rattle.progress.specs.UnderWay.{Bounded, Fits}
@@ -62,9 +63,8 @@ same-trans a b = record { state = b .state ∙ a .state; tangents = b .tangents 
 
 pub fits-kept : {S : System} {m : List Float} {k n a c a′ c′ : ℕ} {h : Float} {H H′ : Held} → Fits S m k h n a c H → SameLengths H H′ → Bounded k a′ c′ (H′ .progress) → Fits S m k h n a′ c′ H′
 fits-kept F s b =
-    let P = F .passed in
     record {
-      passed = record { dimension-above = P .dimension-above; dimension-within = P .dimension-within; matrix = P .matrix; state = s .state ∙ P .state; count = P .count; step-size = P .step-size };
+      passed = passed-kept (s .state) (F .passed);
       steps = F .steps;
       tangents = s .tangents ∙ F .tangents;
       norms = s .norms ∙ F .norms;

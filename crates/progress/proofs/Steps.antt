@@ -25,6 +25,7 @@ use Rattle.system.specs.declared.System.{System}
 use Rattle.rk4.specs.Step.{Stepped, advance, advanced, not-finite, observed}
 use Rattle.rk4.specs.Tests.{Passed}
 use Rattle.rk4.proofs.Advance.{direction-length}
+use Rattle.rk4.proofs.Tests.{passed-kept}
 use Rattle.benettin.specs.Run.{Dynamics, RunState, Norms, Totals, Status, ok, refused, refused-at, tested, step, steps, _then_}
 use Rattle.benettin.specs.Estimate.{dynamics}
 use Rattle.progress.specs.Progress.{motion, joined}
@@ -91,10 +92,6 @@ pub record Stepping (S : System) (m : List Float) (k : ℕ) (h : Float) (n : ℕ
 pub stepping-start : {S : System} {m x t : List Float} {k : ℕ} {h : Float} {n : ℕ} {time : Float} → Passed S m x k h → length t ≡ k * dim S → finite time ≡ true → Stepping S m k h n time x t 0 time x t
 stepping-start P l τ =
     record { few = omega arith; passed = P; tangents = l; clock = τ; state-kept = refl; tangents-kept = refl; rest = λ D s N T. let z : s + 0 ≡ s = omega arith in rw (sub-zero, z) }
-
-passed-kept : {S : System} {m x x′ : List Float} {k : ℕ} {h : Float} → length x′ ≡ length x → Passed S m x k h → Passed S m x′ k h
-passed-kept e P =
-    record { dimension-above = P .dimension-above; dimension-within = P .dimension-within; matrix = P .matrix; state = e ∙ P .state; count = P .count; step-size = P .step-size }
 
 module _ {S : System} {m : List Float} {k : ℕ} {h : Float} {n : ℕ} {time₀ : Float} {x₀ t₀ : List Float} {i : ℕ} {time : Float} {x t : List Float} (I : Stepping S m k h n time₀ x₀ t₀ i time x t) where
   pub stepping-end : n ≤ i → Advanced S m k h n time₀ x₀ t₀ (record { outcome = Accepted; steps = i; time = time }) x t

@@ -2,14 +2,15 @@
 use Prim.Native.Nat.{ℕ, _*_, _≤_}
 use mathlib.Core.Path.{_≡_, refl, ap, ap₂, _∙_}
 use mathlib.Core.List.{List, [], map}
-use borrow.Author.Tests.{eqb-true}
+use borrow.Author.Tests.{eqb-true, leb-true}
 use lib.ListN.{length}
 use lib.Ieee.{Float}
 use Rattle.floats.specs.Vector.{chunks, concat}
+use Rattle.lorenz96.specs.Around.{Cells}
 use Rattle.system.specs.System.{dim, field, tangent, times}
 use Rattle.system.specs.Evaluation.{Transposed, Held}
 use Rattle.system.specs.declared.System.{System}
-use Rattle.system.specs.declared.System.the-variants.{Linear}
+use Rattle.system.specs.declared.System.the-variants.{Linear, Lorenz96}
 use Rattle.rk4.specs.Stepper.{stage-points, moved, advance-by, rk4}
 use Rattle.rk4.specs.Step.{advance, advanced}
 use Rattle.rk4.specs.Tests.{Passed}
@@ -52,6 +53,13 @@ pub leaves : {S : System} {m : List Float} {h : Float} {x t : List Float} {n : �
 unfolding advanced
 leaves a = ap₂ tested-finite (a .next) (a .along-with)
 
+-- the same, where the system was matched
+pub matched-leaves : {S T : System} → S ≡ T → {m : List Float} {h : Float} {x t : List Float} {n : ℕ} {y vs : List Float} → Advances T m h x t n y vs → tested-finite y vs ≡ advanced S m x t n h
+matched-leaves e a = rw e (leaves a)
+
+pub matched-fits : {S T : System} → S ≡ T → {m x : List Float} {n : ℕ} {h : Float} (t : List Float) → Passed S m x n h → length t ≡ n * dim S → (length x ≡ dim T) × (dim T ≤ 16) × (length t ≡ n * dim T)
+matched-fits e t p l = (p .state ∙ ap dim e, rw e at (p .dimension-within), rw e at l)
+
 -- ---- a linear system that passed the tests
 
 -- the slices fit it
@@ -69,7 +77,10 @@ module _ {S : System} {d : ℕ} (e : S ≡ Linear d) where
   pub linear-fits : {m x : List Float} {n : ℕ} {h : Float} (t : List Float) → Passed S m x n h → length t ≡ n * dim S → Fitting d m x t n
   linear-fits {m} t p l =
       let q = rw e at (p .matrix) in
-      record { within = rw e at (p .dimension-within); matrix = eqb-true (length m) (d * d) q; state = p .state ∙ ap dim e; tangents = rw e at l }
+      let f = matched-fits e t p l in
+      record { within = f .1; matrix = eqb-true (length m) (d * d) q; state = f .0; tangents = f .2 }
 
-  pub linear-leaves : {m : List Float} {h : Float} {x t : List Float} {n : ℕ} {y vs : List Float} → Advances (Linear d) m h x t n y vs → tested-finite y vs ≡ advanced S m x t n h
-  linear-leaves a = rw e (leaves a)
+-- ---- a ring that passed the tests has the cells that evaluating it asks for
+
+pub ring-cells : {S : System} {n : ℕ} {F : Float} → S ≡ Lorenz96 n F → {m x : List Float} {k : ℕ} {h : Float} → Passed S m x k h → Cells n
+ring-cells {n = n} e p = let q = rw e at (p .cells) in record { enough = leb-true 4 n q; within = rw e at (p .dimension-within) }

@@ -55,6 +55,7 @@ module _ (S : System) (m : List Float) (time : Float) (x t : List Float) (n : �
         record {
           dimension-above = dimension .0;
           dimension-within = dimension .1;
+          cells = dimension .2;
           matrix = matrix-passed S m (b .0);
           state = length-passed S x (c .0);
           count = tangents .0;
@@ -73,3 +74,8 @@ module _ (S : System) (m : List Float) (time : Float) (x t : List Float) (n : �
   pub stepped-refused : (r : Refusal) → some r ≡ first-failing (step-tests S m time x t n h) → stepped S m time x t n h ≡ record { refusal = some r; state = x; tangents = t }
   unfolding stepped
   stepped-refused r e = rw (← e)
+
+-- another state of the same length passes too
+pub passed-kept : {S : System} {m x x′ : List Float} {k : ℕ} {h : Float} → length x′ ≡ length x → Passed S m x k h → Passed S m x′ k h
+passed-kept e P =
+    record { dimension-above = P .dimension-above; dimension-within = P .dimension-within; cells = P .cells; matrix = P .matrix; state = e ∙ P .state; count = P .count; step-size = P .step-size }

@@ -8,7 +8,7 @@ use lib.ListN.{length}
 use lib.Ieee.{Float}
 use Rattle.error.specs.Tests.{Test, test}
 use Rattle.floats.specs.Finite.{positive}
-use Rattle.system.specs.System.{dim, matrix-fits}
+use Rattle.system.specs.System.{dim, matrix-fits, cells-fit}
 use Rattle.system.specs.Tests.{dimension-tests, matrix-tests, length-tests, time-tests, step-size-tests}
 use Rattle.system.specs.declared.System.{System}
 
@@ -16,7 +16,7 @@ use Rattle.system.specs.declared.System.{System}
 abbrev pub tangent-tests : System → List Float → ℕ → List Test
 tangent-tests S t n = test (leb n 16) 19 0 ∷ test (eqb (length t) (n * dim S)) 19 0 ∷ []
 
--- 7, 8, 9, 10, 19, 6, 2: of the state x and n directions in t, at a time, with the step size h
+-- 7, 8, 25, 9, 10, 19, 6, 2: of the state x and n directions in t, at a time, with the step size h
 abbrev pub step-tests : System → List Float → Float → List Float → List Float → ℕ → Float → List Test
 step-tests S m time x t n h = dimension-tests S ++ matrix-tests S m ++ length-tests S x ++ tangent-tests S t n ++ time-tests time ++ step-size-tests h
 
@@ -24,6 +24,7 @@ step-tests S m time x t n h = dimension-tests S ++ matrix-tests S m ++ length-te
 pub record Passed (S : System) (m x : List Float) (k : ℕ) (h : Float) : Type 0 where
   pub dimension-above : 0 < dim S
   pub dimension-within : dim S ≤ 16
+  pub cells : cells-fit S ≡ true
   pub matrix : matrix-fits S m ≡ true
   pub state : length x ≡ dim S
   pub count : k ≤ 16

@@ -28,7 +28,8 @@ use error::Outcome;
 use system::System;
 
 // The state and every direction, by the body that is fastest. A matrix of more than 8 rows is transposed here, so that only a
-// step that needs it has room for it.
+// step that needs it has room for it. A ring reads no columns: its matrix, whatever it is, stands in for them. The wide body
+// gets a system made anew, since `system` itself, if it is lent on, is copied before it is looked at: a third of a small step.
 fn advance_values(
     system: System,
     matrix: &[f64],
@@ -40,16 +41,22 @@ fn advance_values(
     requires { ⌜ Passed system (now matrix) (now state) count h × (length (now tangents) ≡ count * dim system) ⌝ }
     ensures { λ _. ⌜ tested-finite (now (state .exit)) (now (tangents .exit)) ≡ advanced system (now (matrix .entry)) (now (state .entry)) (now (tangents .entry)) count h ⌝ }
 {
-    if let System::Linear(d) = system {
-        if d <= 8 {
-            narrow::advance_narrow(matrix, d, state, tangents, count, h);
-        } else {
-            let mut columns = [0.0; 256];
-            system::columns::transpose(matrix, d, 16, &mut columns);
-            wide::advance_wide(system, &columns, state, tangents, count, h);
+    match system {
+        System::Linear(d) => {
+            if d <= 8 {
+                narrow::advance_narrow(matrix, d, state, tangents, count, h);
+            } else {
+                let mut columns = [0.0; 256];
+                system::columns::transpose(matrix, d, 16, &mut columns);
+                let linear = System::Linear(d);
+                wide::advance_wide(linear, &columns, state, tangents, count, h);
+            }
         }
-    } else {
-        fixed::advance_fixed(system, state, tangents, count, h);
+        System::Lorenz96 { cells, forcing } => {
+            let ring = System::Lorenz96 { cells, forcing };
+            wide::advance_wide(ring, matrix, state, tangents, count, h);
+        }
+        _ => fixed::advance_fixed(system, state, tangents, count, h),
     }
 }
 

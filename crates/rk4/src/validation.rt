@@ -21,7 +21,7 @@ fn validate_tangents(system: System, tangents: &[f64], count: usize) -> Outcome
     error::test(filled, LyapunovError::TangentMismatch)
 }
 
-// The tests 7, 8, 9, 10, 19, 6, 2, in this order. They are made at each step, so the first refusal returns: to make all of
+// The tests 7, 8, 25, 9, 10, 19, 6, 2, in this order. They are made at each step, so the first refusal returns: to make all of
 // them takes up to 4 % of a step more.
 pub fn validate_step_inputs(
     system: System,

@@ -11,13 +11,13 @@ use lib.Ieee.Scale.{finite}
 use Rattle.error.specs.Tests.{first-failing}
 use Rattle.floats.specs.Finite.{positive}
 use Rattle.error.proofs.Tests.{passed}
-use Rattle.system.specs.System.{dim, matrix-fits}
+use Rattle.system.specs.System.{dim, matrix-fits, cells-fit}
 use Rattle.system.specs.Tests.{dimension-tests, matrix-tests, length-tests, time-tests, step-size-tests}
 use Rattle.system.specs.declared.System.{System}
 
 module _ (S : System) where
-  pub dimension-passed : none ≡ first-failing (dimension-tests S) → (0 < dim S) × (dim S ≤ 16)
-  dimension-passed e = let p = passed _ _ e in (ltb-true _ _ (p .0), leb-true _ _ (passed _ _ (p .1) .0))
+  pub dimension-passed : none ≡ first-failing (dimension-tests S) → (0 < dim S) × (dim S ≤ 16) × (cells-fit S ≡ true)
+  dimension-passed e = let p = passed _ _ e in let q = passed _ _ (p .1) in (ltb-true _ _ (p .0), leb-true _ _ (q .0), passed _ _ (q .1) .0)
 
   pub matrix-passed : (m : List Float) → none ≡ first-failing (matrix-tests S m) → matrix-fits S m ≡ true
   matrix-passed m e = passed _ _ e .0

@@ -1,11 +1,12 @@
--- How the code holds a matrix, and what evaluates without one; a reader may skip this. Definitions only.
+-- How the code holds a matrix, and what evaluating a system asks for; a reader may skip this. Definitions only.
 use Prim.Native.Nat.{ℕ, _+_, _*_, _≤_, _<_}
 use mathlib.Core.Path.{_≡_}
 use mathlib.Core.List.{List}
 use lib.ListN.{length, getD}
 use lib.Ieee.{Float, nan}
+use Rattle.lorenz96.specs.Around.{Cells}
 use Rattle.system.specs.declared.System.{System}
-use Rattle.system.specs.declared.System.the-variants.{Lorenz, Rossler, VanDerPol, Linear}
+use Rattle.system.specs.declared.System.the-variants.{Lorenz, Rossler, VanDerPol, Linear, Lorenz96}
 
 -- a system whose dimension is fixed: it has no matrix
 abbrev pub Fixed : System → Type 0
@@ -13,6 +14,7 @@ Fixed (Lorenz σ ρ β) = Unit {0}
 Fixed (Rossler a b c) = Unit {0}
 Fixed (VanDerPol μ) = Unit {0}
 Fixed (Linear d) = ⊥
+Fixed (Lorenz96 n F) = ⊥
 
 -- the d rows of m, column after column, each column at the front of w entries
 abbrev pub Transposed : ℕ → ℕ → List Float → List Float → Type 0
@@ -25,9 +27,10 @@ pub record Held (d : ℕ) (m columns : List Float) : Type 0 where
   pub square : length m ≡ d * d
   pub transposed : Transposed 16 d m columns
 
--- what a system reads of a matrix is held
+-- what evaluating a system asks for: a linear one's columns, and a ring's cells
 abbrev pub Columns : System → List Float → List Float → Type 0
 Columns (Lorenz σ ρ β) m columns = Unit {0}
 Columns (Rossler a b c) m columns = Unit {0}
 Columns (VanDerPol μ) m columns = Unit {0}
 Columns (Linear d) m columns = Held d m columns
+Columns (Lorenz96 n F) m columns = Cells n

@@ -6,12 +6,12 @@ use lib.Ieee.{Float}
 use lib.Ieee.Scale.{finite}
 use Rattle.error.specs.Tests.{Test, test}
 use Rattle.floats.specs.Finite.{positive}
-use Rattle.system.specs.System.{dim, matrix-fits}
+use Rattle.system.specs.System.{dim, matrix-fits, cells-fit}
 use Rattle.system.specs.declared.System.{System}
 
--- 7 and 8: the dimension is 1 to 16
+-- 7, 8 and 25: the dimension is 1 to 16, and that of a ring at least 4
 abbrev pub dimension-tests : System → List Test
-dimension-tests S = test (ltb 0 (dim S)) 7 0 ∷ test (leb (dim S) 16) 8 0 ∷ []
+dimension-tests S = test (ltb 0 (dim S)) 7 0 ∷ test (leb (dim S) 16) 8 0 ∷ test (cells-fit S) 25 0 ∷ []
 
 -- 9: the matrix of a linear system
 abbrev pub matrix-tests : System → List Float → List Test

@@ -70,16 +70,19 @@ pub fn product(columns: &[f64], d: usize, x: &[f64; 16], width: usize) -> [f64; 
     sums
 }
 
-// The same by columns of 16 entries, and zeros where they are not there: a system that is evaluated may have any dimension.
-pub fn wide_product(columns: &[f64], d: usize, x: &[f64; 16]) -> [f64; 16]
-    requires { ⌜ length (now x) ≡ 16 ⌝ }
-    ensures { λ r. ⌜ ((m : List Float) → Held d m (now (columns .entry)) → take d r ≡ times (chunks d d m) (take d (now (x .entry)))) ⌝ }
+// The same by columns of 16 entries, into `out`, which stays as it is where they are not there: a system that is evaluated
+// may have any dimension.
+pub fn wide_product(columns: &[f64], d: usize, x: &[f64; 16], out: &mut [f64; 16])
+    requires { ⌜ (length (now x) ≡ 16) × (length (now out) ≡ 16) ⌝ }
+    ensures { λ _. ⌜ (length (now (out .exit)) ≡ 16)
+        × ((m : List Float) → Held d m (now (columns .entry)) → take d (now (out .exit)) ≡ times (chunks d d m) (take d (now (x .entry)))) ⌝ }
 {
     if d > 16 {
-        return [0.0; 16];
+        return;
     }
     if columns.len() < 16 * d {
-        return [0.0; 16];
+        return;
     }
-    product(columns, d, x, 16)
+    let sums = product(columns, d, x, 16);
+    *out = sums;
 }

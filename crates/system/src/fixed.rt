@@ -102,7 +102,7 @@ pub fn fixed_field(system: System, x: &[f64; 16]) -> [f64; 16]
         System::Lorenz { sigma, rho, beta } => lorenz_field(sigma, rho, beta, x),
         System::Rossler { a, b, c } => rossler_field(a, b, c, x),
         System::VanDerPol { mu } => van_der_pol_field(mu, x),
-        System::Linear(_) => [0.0; 16],
+        _ => [0.0; 16],
     }
 }
 
@@ -115,6 +115,6 @@ pub fn fixed_tangent(system: System, x: &[f64; 16], t: &[f64; 16]) -> [f64; 16]
         System::Lorenz { sigma, rho, beta } => lorenz_tangent(sigma, rho, beta, x, t),
         System::Rossler { a, b: _, c } => rossler_tangent(a, c, x, t),
         System::VanDerPol { mu } => van_der_pol_tangent(mu, x, t),
-        System::Linear(_) => [0.0; 16],
+        _ => [0.0; 16],
     }
 }

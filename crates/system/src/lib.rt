@@ -1,9 +1,9 @@
-// The systems of document 01: dimension, vector field and tangent map of each (source: system.rs).
+// The systems of documents 01 and 02: dimension, vector field and tangent map of each (source: system.rs).
 //
 // Every function equals a definition of specs/System.antt: start reading there. `vector_field` and
 // `jacobian_vector_product` evaluate any system. fixed.rt has the formulas of the systems of fixed dimension, columns.rt the
-// product with the matrix of a linear one, validation.rt the tests of a system and of what is lent beside it
-// (specs/Tests.antt). specs/Evaluation.antt only says how the code holds a matrix.
+// product with the matrix of a linear one, crate lorenz96 the cells of a ring, validation.rt the tests of a system and of what
+// is lent beside it (specs/Tests.antt). specs/Evaluation.antt only says how the code holds a matrix.
 //
 // Another system adds a case to `System` and to `dim`, `field` and `tangent` of specs/System.antt, an arm to each function
 // below, and its formulas, in fixed.rt or in a file of its own.
@@ -25,6 +25,7 @@ pub enum System {
     Rossler { a: f64, b: f64, c: f64 },
     VanDerPol { mu: f64 },
     Linear(usize),
+    Lorenz96 { cells: usize, forcing: f64 },
 }
 
 // The number of entries of a state.
@@ -40,6 +41,7 @@ pub fn dimension(system: System) -> usize
         System::Rossler { a: _, b: _, c: _ } => 3,
         System::VanDerPol { mu: _ } => 2,
         System::Linear(d) => d,
+        System::Lorenz96 { cells, forcing: _ } => cells,
     }
 }
 
@@ -62,23 +64,39 @@ pub fn matrix_fits(system: System, matrix: &[f64]) -> bool
                 false
             }
         }
+        System::Lorenz96 {
+            cells: _,
+            forcing: _,
+        } => true,
+    }
+}
+
+// Whether a ring has enough cells: the other systems have none.
+pub fn cells_fit(system: System) -> bool
+    ensures { λ r. ⌜ r ≡ Spec.cells-fit system ⌝ }
+{
+    if let System::Lorenz96 { cells, forcing: _ } = system {
+        cells >= 4
+    } else {
+        true
     }
 }
 
 // The vector field of any system at x, at the front of `out`. `columns` has the matrix of a linear system, in columns of 16
-// entries. The result is lent and not returned: the caller's arrays are in memory, and a copy of 16 floats costs as much
-// as a small field.
+// entries; the others do not read it. The result is lent and not returned: the caller's arrays are in memory, and a copy of
+// 16 floats costs as much as a small field.
 pub fn vector_field(system: System, columns: &[f64], x: &[f64; 16], out: &mut [f64; 16])
-    requires { ⌜ length (now x) ≡ 16 ⌝ }
+    requires { ⌜ (length (now x) ≡ 16) × (length (now out) ≡ 16) ⌝ }
     ensures { λ _. ⌜ (length (now (out .exit)) ≡ 16)
         × ((m : List Float) → Columns system m (now (columns .entry)) → take (dim system) (now (out .exit)) ≡ field system m (take (dim system) (now (x .entry)))) ⌝ }
 {
-    if let System::Linear(d) = system {
-        let sums = columns::wide_product(columns, d, x);
-        *out = sums;
-    } else {
-        let entries = fixed::fixed_field(system, x);
-        *out = entries;
+    match system {
+        System::Linear(d) => columns::wide_product(columns, d, x, out),
+        System::Lorenz96 { cells, forcing } => lorenz96::vector_field(cells, forcing, x, out),
+        _ => {
+            let entries = fixed::fixed_field(system, x);
+            *out = entries;
+        }
     }
 }
 
@@ -90,15 +108,21 @@ pub fn jacobian_vector_product(
     t: &[f64; 16],
     out: &mut [f64; 16],
 )
-    requires { ⌜ length (now t) ≡ 16 ⌝ }
+    requires { ⌜ (length (now t) ≡ 16) × (length (now out) ≡ 16) ⌝ }
     ensures { λ _. ⌜ (length (now (out .exit)) ≡ 16)
         × ((m : List Float) → Columns system m (now (columns .entry)) → take (dim system) (now (out .exit)) ≡ tangent system m (take (dim system) (now (x .entry))) (take (dim system) (now (t .entry)))) ⌝ }
 {
-    if let System::Linear(d) = system {
-        let sums = columns::wide_product(columns, d, t);
-        *out = sums;
-    } else {
-        let entries = fixed::fixed_tangent(system, x, t);
-        *out = entries;
+    match system {
+        System::Linear(d) => columns::wide_product(columns, d, t, out),
+        System::Lorenz96 { cells, forcing: _ } => lorenz96::jacobian_vector_product(
+            cells,
+            x,
+            t,
+            out,
+        ),
+        _ => {
+            let entries = fixed::fixed_tangent(system, x, t);
+            *out = entries;
+        }
     }
 }

@@ -8,14 +8,15 @@ use crate::System;
 use error::LyapunovError;
 use error::Outcome;
 
-// The tests 7 and 8.
+// The tests 7, 8 and 25.
 pub fn validate_dimension(system: System) -> Outcome
     ensures { λ r. ⌜ reported r ≡ first-failing (dimension-tests system) ⌝ }
 {
     let d = crate::dimension(system);
     let above = error::test(0 < d, LyapunovError::ZeroDimension);
     let within = error::test(d <= 16, LyapunovError::DimensionAboveLimit);
-    error::first_refusal(above, within)
+    let enough = error::test(crate::cells_fit(system), LyapunovError::TooFewCells);
+    error::first_refusal(error::first_refusal(above, within), enough)
 }
 
 // Test 9.

@@ -1,7 +1,7 @@
 //! The systems that are timed.
 
 use input::{Settings, System};
-use oracle::{Circuit, Start};
+use oracle::{Circuit, Neighbours, Start};
 
 #[derive(Clone)]
 pub struct Problem {
@@ -10,6 +10,8 @@ pub struct Problem {
     pub state: Vec<f64>,
     pub top_k: usize,
     pub step_size: f64,
+    /// How the Rust finds the neighbours of a ring's cell.
+    neighbours: Neighbours,
 }
 
 pub fn lorenz() -> Problem {
@@ -23,6 +25,7 @@ pub fn lorenz() -> Problem {
         state: vec![1.0, 1.0, 1.0],
         top_k: 3,
         step_size: 0.001,
+        neighbours: Neighbours::default(),
     }
 }
 
@@ -67,11 +70,45 @@ pub fn linear(dimension: usize, top_k: usize) -> Problem {
     }
 }
 
+/// A ring with all its rates, beside Rust that finds neighbours in one way.
+fn ring(cells: usize, neighbours: Neighbours) -> Problem {
+    let forcing = 8.0;
+    let mut state = vec![forcing; cells];
+    // Equal cells would rest.
+    state[0] += 0.01;
+    let way = match neighbours {
+        Neighbours::Remainder => "%",
+        Neighbours::Comparison => "comparison",
+    };
+    Problem {
+        name: format!("Lorenz 96 n={cells} K={cells}, Rust by {way}"),
+        system: System::Lorenz96 { cells, forcing },
+        state,
+        top_k: cells,
+        neighbours,
+        ..lorenz()
+    }
+}
+
+/// Rings of three sizes beside both ways in Rust, with the largest ratios that are aimed at.
+pub fn rings() -> Vec<(Problem, f64)> {
+    let (remainder, comparison) = (Neighbours::Remainder, Neighbours::Comparison);
+    vec![
+        (ring(4, remainder), 0.8),
+        (ring(4, comparison), 1.1),
+        (ring(8, remainder), 0.65),
+        (ring(8, comparison), 1.0),
+        (ring(16, remainder), 0.5),
+        (ring(16, comparison), 0.8),
+    ]
+}
+
 impl Problem {
     pub fn circuit(&self) -> Circuit<'_> {
         Circuit {
             system: &self.system,
             may_evaluate: true,
+            neighbours: self.neighbours,
         }
     }
 

@@ -1,6 +1,6 @@
 //! Whole runs.
 
-use crate::problem::{linear, lorenz, rossler, van_der_pol, Problem};
+use crate::problem::{linear, lorenz, rings, rossler, van_der_pol, Problem};
 use crate::race::{same_bits, Race, Reference};
 use input::Settings;
 use oracle::{End, Entry};
@@ -22,7 +22,7 @@ impl Counts {
 
 pub fn races(source: Reference) -> Result<Vec<Race>, String> {
     let counts = |steps, windows| Counts { steps, windows };
-    let problems = [
+    let mut problems = vec![
         (lorenz(), counts(10, 6_000), 0.6),
         (rossler(), counts(10, 6_000), 0.6),
         (lorenz(), counts(1, 20_000), 0.8),
@@ -31,6 +31,12 @@ pub fn races(source: Reference) -> Result<Vec<Race>, String> {
         (linear(16, 16), counts(10, 120), 0.6),
         (linear(3, 3), counts(10, 6_000), 0.75),
     ];
+    let ring = |(problem, target): (Problem, f64)| {
+        // About the same time for every size.
+        let windows = 32_000 / problem.state.len().pow(2) as u64;
+        (problem, counts(10, windows), target)
+    };
+    problems.extend(rings().into_iter().map(ring));
     let race = |(mut problem, counts, target): (Problem, Counts, f64)| {
         problem.step_size = 0.01;
         race(source, problem, counts, target)

@@ -1,13 +1,13 @@
 //! The step on its own, many in a row.
 
-use crate::problem::{linear, lorenz, rossler, van_der_pol, Problem};
+use crate::problem::{linear, lorenz, rings, rossler, van_der_pol, Problem};
 use crate::race::{same_bits, Race, Reference};
 use lyapunov_sys::Arguments;
 use oracle::{End, Source, Step};
 use std::hint::black_box;
 
 pub fn races(source: Reference) -> Result<Vec<Race>, String> {
-    let problems = [
+    let mut problems = vec![
         (lorenz(), 20_000, 0.6),
         (rossler(), 20_000, 0.6),
         (van_der_pol(1), 40_000, 0.65),
@@ -19,6 +19,12 @@ pub fn races(source: Reference) -> Result<Vec<Race>, String> {
         (linear(4, 4), 10_000, 0.75),
         (linear(8, 8), 4_000, 0.75),
     ];
+    let ring = |(problem, target): (Problem, f64)| {
+        // About the same time for every size.
+        let steps = 160_000 / problem.state.len().pow(2);
+        (problem, steps, target)
+    };
+    problems.extend(rings().into_iter().map(ring));
     let race = |(problem, steps, target)| race(source, problem, steps, target);
     problems.into_iter().map(race).collect()
 }

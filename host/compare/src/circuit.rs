@@ -4,6 +4,7 @@ use crate::line::Fields;
 use crate::values::{bits, list, read_count};
 use input::{System, MAX_DIMENSION};
 use lyapunov_sys::Arguments;
+use std::ops::RangeInclusive;
 
 /// A kind of system, by its number in the C interface.
 pub struct Kind {
@@ -11,29 +12,76 @@ pub struct Kind {
     name: &'static str,
     pub label: &'static str,
     parameters: usize,
-    has_dimension: bool,
+    /// The dimensions that are not refused.
+    pub dimensions: RangeInclusive<usize>,
+}
+
+impl Kind {
+    fn has_dimension(&self) -> bool {
+        self.dimensions.start() != self.dimensions.end()
+    }
 }
 
 const fn kind(
     name: &'static str,
     label: &'static str,
     parameters: usize,
-    has_dimension: bool,
+    dimensions: RangeInclusive<usize>,
 ) -> Kind {
     Kind {
         name,
         label,
         parameters,
-        has_dimension,
+        dimensions,
     }
 }
 
-pub const KINDS: [Kind; 4] = [
-    kind("lorenz", ", Lorenz", 3, false),
-    kind("rossler", ", Rossler", 3, false),
-    kind("vdp", ", van der Pol", 1, false),
-    kind("linear", ", linear", 0, true),
+pub const KINDS: [Kind; 5] = [
+    kind("lorenz", ", Lorenz", 3, 3..=3),
+    kind("rossler", ", Rossler", 3, 3..=3),
+    kind("vdp", ", van der Pol", 1, 2..=2),
+    kind("linear", ", linear", 0, 1..=MAX_DIMENSION),
+    kind("lorenz96", ", Lorenz 96", 1, 4..=MAX_DIMENSION),
 ];
+
+/// The kinds whose dimension is handed over.
+pub const LINEAR: u64 = 3;
+pub const RING: u64 = 4;
+
+/// Which systems are drawn.
+#[derive(Clone, Copy, Debug, PartialEq, Eq)]
+pub enum Systems {
+    /// Those of document 01. The fixed list began with them, and its lines stay.
+    Base,
+    All,
+    /// Those of one kind, by its number. Their size is not refused.
+    Of(u64),
+}
+
+impl Systems {
+    /// The systems of the kind with this name.
+    pub fn named(name: &str) -> Result<Self, String> {
+        let known = KINDS.iter().position(|kind| kind.name == name);
+        let kind = known.ok_or_else(|| format!("no system {name}"))?;
+        Ok(Self::Of(kind as u64))
+    }
+
+    /// The kind that all of them have, where they have one.
+    pub fn kind(self) -> Option<&'static Kind> {
+        match self {
+            Self::Of(kind) => KINDS.get(kind as usize),
+            _ => None,
+        }
+    }
+
+    /// Every kind that they have.
+    pub fn kinds(self) -> &'static [Kind] {
+        match self.kind() {
+            Some(kind) => std::slice::from_ref(kind),
+            None => &KINDS,
+        }
+    }
+}
 
 /// A system, and the arguments that hand it to the library. What it must not read may be anything.
 /// A kind that the C interface does not have is a system of dimension 0.
@@ -93,10 +141,16 @@ impl Circuit {
         KINDS.get(kind)
     }
 
-    /// The first failing test of those that the source does not have: 8 and 9.
+    /// The label of its kind, where it has one.
+    pub fn label(&self) -> &'static str {
+        self.kind().map_or("", |kind| kind.label)
+    }
+
+    /// The first failing test of those that the source does not have: 8, 25 and 9.
     pub fn added_refusal(&self) -> Option<u64> {
         match &self.system {
             system if system.dimension() > MAX_DIMENSION => Some(8),
+            System::Lorenz96 { cells: 1..=3, .. } => Some(25),
             System::Linear { dimension, matrix } if dimension * dimension != matrix.len() => {
                 Some(9)
             }
@@ -114,7 +168,7 @@ impl Circuit {
         let matrix = fields.floats("mat")?;
         let known = KINDS.iter().position(|kind| kind.name == name);
         let (kind, dimension) = match (known, number) {
-            (Some(at), dimension) if KINDS[at].has_dimension == dimension.is_some() => {
+            (Some(at), dimension) if KINDS[at].has_dimension() == dimension.is_some() => {
                 (at as u64, dimension)
             }
             (None, Some(kind)) if name == "kind" => (kind, None),
@@ -136,7 +190,7 @@ impl Circuit {
 
     pub fn written(&self) -> String {
         let (name, count) = match self.kind() {
-            Some(kind) if kind.has_dimension => {
+            Some(kind) if kind.has_dimension() => {
                 let name = format!("{}:{}", kind.name, self.dimension);
                 (name, kind.parameters)
             }
@@ -181,6 +235,8 @@ mod tests {
             "step id=A sys=duffing par=- mat=- -> num=0",
             "step id=A sys=linear par=- mat=- -> num=0",
             "step id=A sys=linear:x par=- mat=- -> num=0",
+            "step id=A sys=lorenz96:4 par=- mat=- -> num=0",
+            "step id=A sys=lorenz96 par=4020000000000000 mat=- -> num=0",
         ] {
             let mut line = Line::read(text).unwrap();
             assert!(Circuit::read(&mut line.input).is_err(), "{text}");
@@ -193,5 +249,26 @@ mod tests {
         let arguments = van_der_pol.arguments();
         assert!(arguments.parameters[1..].iter().all(|x| x.is_nan()));
         assert_eq!(arguments.dimension, 17);
+    }
+
+    #[test]
+    fn tests_that_the_source_does_not_have() {
+        let ring = |cells| {
+            let forcing = 8.0;
+            Circuit::of(System::Lorenz96 { cells, forcing }).added_refusal()
+        };
+        let sizes = [0, 1, 3, 4, 16, 17];
+        let added = [None, Some(25), Some(25), None, None, Some(8)];
+        assert_eq!(sizes.map(ring), added);
+        let (dimension, matrix) = (2, vec![0.0; 3]);
+        let linear = Circuit::of(System::Linear { dimension, matrix });
+        assert_eq!(linear.added_refusal(), Some(9));
+    }
+
+    #[test]
+    fn kinds_are_named() {
+        assert_eq!(Systems::named("linear"), Ok(Systems::Of(LINEAR)));
+        assert_eq!(Systems::named("lorenz96"), Ok(Systems::Of(RING)));
+        assert!(Systems::named("duffing").is_err());
     }
 }

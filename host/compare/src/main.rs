@@ -11,12 +11,10 @@ mod random;
 mod tally;
 mod values;
 
+use circuit::Systems;
 use commands::{Inputs, Limits};
 use std::path::{Path, PathBuf};
 use std::process::ExitCode;
-
-/// The seed of generated inputs where none is given.
-const DEFAULT_SEED: &str = "1";
 
 const USAGE: &str = "usage:
   compare cases FILE [--program PATH]    replay a list of cases; PATH is the program spectrum
@@ -32,7 +30,9 @@ const USAGE: &str = "usage:
   compare fuzz [--seconds N] [--calls N] [--seed S]
                                          calls from random bytes, for N seconds (20) or N calls
   compare write-list FILE                write the fixed list of answers
-Generated inputs are the same for the same N and the same --seed S, which may follow N.
+Generated inputs are the same for the same N and the same --seed S (1). With --system NAME (lorenz,
+rossler, vdp, linear or lorenz96) the inputs of step, runs and pairs are of that system alone, no
+test before a step refuses them but 15, and every dimension must be met with every K.
 Exit status: 0 nothing differs, 1 something differs or was not met, 2 bad usage.";
 
 fn main() -> ExitCode {
@@ -55,9 +55,8 @@ fn command(words: &[&str]) -> Result<bool, String> {
         ["cases", file, "--program", path] => replay(file, Some(PathBuf::from(path))),
         ["write-list", file] => write_list(file),
         ["fuzz", limits @ ..] => Ok(commands::fuzz(&read_limits(limits)?)),
-        [name, "--count", count] => compare(name, count, DEFAULT_SEED),
-        [name, "--count", count, "--seed", seed] => compare(name, count, seed),
-        _ => Err(USAGE.to_string()),
+        [name, options @ ..] => compare(name, options),
+        [] => Err(USAGE.to_string()),
     }
 }
 
@@ -78,12 +77,26 @@ fn read_limits(words: &[&str]) -> Result<Limits, String> {
     Ok(limits)
 }
 
+fn read_inputs(words: &[&str]) -> Result<Inputs, String> {
+    let (mut count, mut seed, mut systems) = (None, 1, Systems::All);
+    for pair in words.chunks(2) {
+        match pair {
+            ["--count", value] => count = Some(number(value)?),
+            ["--seed", value] => seed = number(value)?,
+            ["--system", name] => systems = Systems::named(name)?,
+            _ => return Err(USAGE.to_string()),
+        }
+    }
+    let count = count.ok_or(USAGE)?;
+    Ok(Inputs {
+        count,
+        seed,
+        systems,
+    })
+}
+
 /// Runs the comparison `name` on generated inputs.
-fn compare(name: &str, count: &str, seed: &str) -> Result<bool, String> {
-    let inputs = Inputs {
-        count: number(count)?,
-        seed: number(seed)?,
-    };
+fn compare(name: &str, words: &[&str]) -> Result<bool, String> {
     let compare = match name {
         "leaves" => commands::leaves,
         "step" => commands::step,
@@ -96,6 +109,12 @@ fn compare(name: &str, count: &str, seed: &str) -> Result<bool, String> {
         "rates" => commands::rates,
         _ => return Err(USAGE.to_string()),
     };
+    let inputs = read_inputs(words)?;
+    if inputs.systems != Systems::All && !["step", "runs", "pairs"].contains(&name) {
+        return Err(format!(
+            "--system goes with step, runs and pairs only, not with {name}"
+        ));
+    }
     Ok(compare(inputs))
 }
 

@@ -1,8 +1,12 @@
 //! A small deterministic generator for inputs (Vigna's xorshift64*), unrelated to the one that is
 //! compared.
 
+use crate::circuit::Systems;
+
 pub struct Random {
     state: u64,
+    /// Which systems the inputs have.
+    pub systems: Systems,
 }
 
 impl Random {
@@ -10,7 +14,13 @@ impl Random {
         // The state must not be 0; the odd factor spreads small seeds.
         Self {
             state: seed.wrapping_mul(0x2545_f491_4f6c_dd1d) | 1,
+            systems: Systems::All,
         }
+    }
+
+    /// The same, for inputs with these systems.
+    pub fn with(self, systems: Systems) -> Self {
+        Self { systems, ..self }
     }
 
     pub fn bits(&mut self) -> u64 {

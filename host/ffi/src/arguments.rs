@@ -5,11 +5,12 @@ use input::System;
 /// A system as the C interface takes it.
 #[derive(Clone, Copy, Debug)]
 pub struct Arguments<'a> {
-    /// 0 Lorenz, 1 Rössler, 2 van der Pol, 3 linear; another has dimension 0.
+    /// 0 Lorenz, 1 Rössler, 2 van der Pol, 3 linear, 4 a ring; another has dimension 0.
     pub kind: u64,
     pub parameters: [f64; 3],
-    /// Read for a linear system only, as is the matrix.
+    /// Read for a linear system, and for a ring as the number of its cells.
     pub dimension: usize,
+    /// Read for a linear system only.
     pub matrix: &'a [f64],
 }
 
@@ -34,6 +35,10 @@ impl<'a> Arguments<'a> {
                 matrix,
                 ..of(3, unused.parameters)
             },
+            System::Lorenz96 { cells, forcing } => Self {
+                dimension: cells,
+                ..of(4, [forcing, second, third])
+            },
         }
     }
 
@@ -51,6 +56,10 @@ impl<'a> Arguments<'a> {
             3 => System::Linear {
                 dimension: self.dimension,
                 matrix: self.matrix.to_vec(),
+            },
+            4 => System::Lorenz96 {
+                cells: self.dimension,
+                forcing: a,
             },
             _ => System::Linear {
                 dimension: 0,
@@ -85,7 +94,7 @@ mod tests {
             dimension: 2,
             matrix: &[4.0],
         };
-        for kind in 0..4 {
+        for kind in 0..5 {
             let given = Arguments { kind, ..unused };
             let system = given.system();
             let over = Arguments::over(&system, unused);
@@ -94,6 +103,19 @@ mod tests {
             assert_eq!((over.dimension, over.matrix), (2, given.matrix));
             assert_eq!(Arguments::from(&system).system(), system);
         }
-        assert_eq!(unused.system().dimension(), 0);
+        for kind in [5, 9, u64::MAX] {
+            let unknown = Arguments { kind, ..unused };
+            assert_eq!(unknown.system().dimension(), 0);
+        }
+    }
+
+    #[test]
+    fn a_ring_is_its_cells_and_its_forcing() {
+        let (cells, forcing) = (5, 8.0);
+        let ring = System::Lorenz96 { cells, forcing };
+        let arguments = Arguments::from(&ring);
+        assert_eq!((arguments.kind, arguments.dimension), (4, 5));
+        assert_eq!(arguments.parameters, [8.0, 0.0, 0.0]);
+        assert_eq!(arguments.matrix, []);
     }
 }

@@ -131,7 +131,7 @@ pub fn build_config(settings: &Settings) -> Refusal {
     })
 }
 
-/// Tests 1 to 12 of a run: those that do not look at its outputs.
+/// Tests 1 to 12 and 25 of a run: those that do not look at its outputs.
 pub fn validate<'a>(
     system: impl Into<Arguments<'a>>,
     time: f64,

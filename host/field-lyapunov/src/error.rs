@@ -24,7 +24,7 @@ macro_rules! refusals {
         }
 
         impl LyapunovError {
-            /// The number of the refusal, 1 to 24.
+            /// The number of the refusal, 1 to 25.
             #[must_use]
             pub const fn number(&self) -> u64 {
                 match self {
@@ -123,6 +123,8 @@ refusals! {
     23 IncompleteBytes => "the number of bytes is not a multiple of 8";
     /// 24: the logarithm of anything that is not positive, normal and finite.
     24 LogarithmDomain => "no logarithm: not positive, normal and finite";
+    /// 25: a ring has 1 to 3 cells. It is tested straight after 8.
+    25 TooFewCells => "the ring has fewer than 4 cells";
 }
 
 /// What the library answers, as a `Result`: 0 is no refusal.
@@ -163,7 +165,7 @@ mod tests {
 
     #[test]
     fn numbers_and_places_are_read_back() {
-        for number in 1..=24 {
+        for number in 1..=25 {
             let error = LyapunovError::from_number(number, 7).unwrap();
             assert_eq!(error.number(), number);
             let placed = [5, 11, 13, 14, 16, 17, 22].contains(&number);
@@ -171,13 +173,13 @@ mod tests {
             assert!(!error.to_string().is_empty());
         }
         assert_eq!(LyapunovError::from_number(0, 0), None);
-        assert_eq!(LyapunovError::from_number(25, 0), None);
+        assert_eq!(LyapunovError::from_number(26, 0), None);
     }
 
     #[test]
     fn every_error_has_words_of_its_own() {
         let words = |number| LyapunovError::from_number(number, 0).unwrap().to_string();
-        let all: std::collections::BTreeSet<String> = (1..=24).map(words).collect();
-        assert_eq!(all.len(), 24);
+        let all: std::collections::BTreeSet<String> = (1..=25).map(words).collect();
+        assert_eq!(all.len(), 25);
     }
 }

@@ -6,6 +6,7 @@ use field_lyapunov::{
     modified_gram_schmidt, sqrt, BenettinConfig, LyapunovError, Rk4, SplitMix64, System,
 };
 use input::Refusal;
+use lyapunov_sys::Arguments;
 
 const FLOATS: [f64; 11] = [
     0.0,
@@ -21,7 +22,7 @@ const FLOATS: [f64; 11] = [
     f64::NAN,
 ];
 
-const SIZES: [usize; 8] = [0, 1, 2, 3, 5, 16, 17, usize::MAX];
+const SIZES: [usize; 9] = [0, 1, 2, 3, 4, 5, 16, 17, usize::MAX];
 
 /// A source of choices.
 struct Chooser(SplitMix64);
@@ -43,7 +44,7 @@ impl Chooser {
     }
 
     fn system(&mut self) -> System {
-        match self.0.next_u64() % 6 {
+        match self.0.next_u64() % 8 {
             0 => System::Lorenz {
                 sigma: self.float(),
                 rho: self.float(),
@@ -55,7 +56,15 @@ impl Chooser {
                 c: self.float(),
             },
             2 => System::VanDerPol { mu: self.float() },
+            3 | 4 => self.ring(),
             _ => self.linear(),
+        }
+    }
+
+    fn ring(&mut self) -> System {
+        System::Lorenz96 {
+            cells: self.size(),
+            forcing: self.float(),
         }
     }
 
@@ -106,7 +115,7 @@ fn runs() {
             }
             Err(run) => {
                 refused += 1;
-                assert!((1..=24).contains(&run.error().number()));
+                assert!((1..=25).contains(&run.error().number()));
                 assert!(run.finite_time_estimates().len() <= windows);
                 assert!(!run.to_string().is_empty());
             }
@@ -161,6 +170,35 @@ fn steps_and_orthonormalisations() {
         }
     }
     assert!((100..19_900).contains(&moved), "{moved}");
+}
+
+/// What a ring does not use may be anything: two parameters, and a matrix of any length.
+#[test]
+fn steps_of_rings_that_are_lent_a_matrix() {
+    let mut chooser = chooser(4);
+    let mut moved = 0;
+    for _ in 0..5_000 {
+        let ring = chooser.ring();
+        let length = chooser.size();
+        let matrix = chooser.floats(length.saturating_mul(length));
+        let unused = Arguments {
+            kind: 3,
+            parameters: [chooser.float(), chooser.float(), chooser.float()],
+            dimension: length,
+            matrix: &matrix,
+        };
+        let mut state = chooser.state(ring.dimension());
+        let mut tangents = chooser.floats(ring.dimension().saturating_mul(2));
+        let (mut x, mut t) = (state.clone(), tangents.clone());
+        let arguments = Arguments::over(&ring, unused);
+        let answer = lyapunov_sys::step(arguments, 0.0, &mut state, &mut tangents, 2, 0.125);
+        let expected = model::step(&ring, 0.0, 0.125, &mut x, &mut t, 2);
+        assert_eq!(answer, expected.err().unwrap_or(Refusal::NONE));
+        assert_same(&state, &x);
+        assert_same(&tangents, &t);
+        moved += u64::from(answer == Refusal::NONE);
+    }
+    assert!(moved > 100, "{moved}");
 }
 
 #[test]

@@ -11,6 +11,11 @@ fn linear(dimension: usize, matrix: &[f64]) -> Rk4 {
     Rk4::new(System::Linear { dimension, matrix })
 }
 
+fn ring(cells: usize) -> Rk4 {
+    let forcing = 8.0;
+    Rk4::new(System::Lorenz96 { cells, forcing })
+}
+
 fn config(top_k: usize) -> BenettinConfig {
     BenettinConfig::new(top_k, 0.01, 2, 3).unwrap()
 }
@@ -69,6 +74,35 @@ fn systems() {
     for length in [0, 3, 5] {
         let error = run(&linear(2, &vec![0.0; length]), &state, &config(1));
         assert_eq!(error, LyapunovError::MatrixMismatch);
+    }
+}
+
+#[test]
+fn rings() {
+    // The state fits none of them, and there are too many exponents for some.
+    let answer = |cells| run(&ring(cells), &[f64::NAN; 5], &config(9));
+    assert_eq!(answer(0), LyapunovError::ZeroDimension);
+    for cells in 1..4 {
+        assert_eq!(answer(cells), LyapunovError::TooFewCells);
+    }
+    for cells in [4, 16] {
+        assert_eq!(answer(cells), LyapunovError::StateMismatch);
+    }
+    for cells in [17, usize::MAX] {
+        assert_eq!(answer(cells), LyapunovError::DimensionAboveLimit);
+    }
+    let error = run(&ring(3), &[1.0; 3], &config(1));
+    assert_eq!(error, LyapunovError::TooFewCells);
+    let refused = estimate_spectrum_at(&ring(3), f64::NAN, &[1.0; 3], &config(1));
+    assert_eq!(
+        refused.unwrap_err().error(),
+        LyapunovError::InvalidInitialTime
+    );
+    for cells in 4..=16 {
+        let error = run(&ring(cells), &[1.0; 16][..cells], &config(cells + 1));
+        assert_eq!(error, LyapunovError::InvalidExponentCount);
+        let answer = estimate_spectrum(&ring(cells), &[1.0; 16][..cells], &config(cells));
+        assert!(answer.is_ok());
     }
 }
 
@@ -164,6 +198,29 @@ fn steps() {
     let answer = step(&one, 0.0, &[0.0], &[1.0, f64::INFINITY], 2, 1.0);
     assert_eq!(answer, refused(LyapunovError::NonFiniteTangent(1)));
     assert_eq!(step(&one, 0.0, &[1.0], &[1.0; 16], 16, 1.0), Ok(()));
+}
+
+#[test]
+fn steps_of_a_ring() {
+    let step = |cells: usize, state: usize, count: usize, time: f64, h: f64| {
+        let (mut state, mut tangents) = (vec![1.0; state], vec![1.0; 4 * count.min(17)]);
+        let answer = ring(cells).step(time, &mut state, &mut tangents, count, h);
+        answer.map_err(|error| error.number())
+    };
+    assert_eq!(step(0, 1, 17, f64::NAN, 0.0), Err(7));
+    for cells in [17, usize::MAX] {
+        assert_eq!(step(cells, 1, 17, f64::NAN, 0.0), Err(8));
+    }
+    for cells in 1..4 {
+        assert_eq!(step(cells, 5, 17, f64::NAN, 0.0), Err(25));
+    }
+    for cells in [4, 16] {
+        assert_eq!(step(cells, 5, 17, f64::NAN, 0.0), Err(10));
+    }
+    assert_eq!(step(4, 4, 17, f64::NAN, 0.0), Err(19));
+    assert_eq!(step(4, 4, 16, f64::NAN, 0.0), Err(6));
+    assert_eq!(step(4, 4, 16, 0.0, 0.0), Err(2));
+    assert_eq!(step(4, 4, 16, 0.0, 1.0), Ok(()));
 }
 
 #[test]

@@ -2,8 +2,8 @@
 
 /// A system, with its parameters.
 ///
-/// Parameters may be any floats, and a linear system may have any dimension and any matrix: what
-/// does not fit is refused by the call that uses it.
+/// Parameters may be any floats, a linear system may have any dimension and any matrix, and a ring
+/// any number of cells: what does not fit is refused by the call that uses it.
 #[derive(Clone, Debug, PartialEq)]
 pub enum System {
     /// x' = σ (y − x), y' = x (ρ − z) − y, z' = x y − β z.
@@ -36,6 +36,13 @@ pub enum System {
         /// A, row by row.
         matrix: Vec<f64>,
     },
+    /// A ring of cells, xᵢ' = (xᵢ₊₁ − xᵢ₋₂) xᵢ₋₁ − xᵢ + F, indices modulo the number of cells.
+    Lorenz96 {
+        /// The number of cells, 4 to 16.
+        cells: usize,
+        /// F.
+        forcing: f64,
+    },
 }
 
 impl System {
@@ -52,6 +59,7 @@ impl System {
             Self::Lorenz { .. } | Self::Rossler { .. } => 3,
             Self::VanDerPol { .. } => 2,
             Self::Linear { dimension, .. } => *dimension,
+            Self::Lorenz96 { cells, .. } => *cells,
         }
     }
 }

@@ -1,6 +1,7 @@
-//! Document 01 as plain Rust, written from the document and not from the source.
+//! Document 01 and the ring of document 02 as plain Rust, written from the documents and not from
+//! the source.
 //!
-//! It answers what the source has no behaviour for (refusals 5, 8, 9, 13, 21, 23, 24, the bound
+//! It answers what the source has no behaviour for (refusals 5, 8, 9, 13, 21, 23, 24, 25, the bound
 //! of 16 in 19, faint counts, the rows of a refused run) and is a second opinion on the rest. It
 //! favours plainness over speed.
 

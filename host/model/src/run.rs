@@ -91,7 +91,7 @@ fn refused(refusal: Refusal, finished: u64, steps: u64) -> Estimate {
     }
 }
 
-/// Tests 1 to 12, in number order.
+/// Tests 1 to 12, in number order, with 25 after 8.
 pub fn validate(
     system: &System,
     time: f64,

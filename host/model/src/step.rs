@@ -4,7 +4,7 @@ use crate::system::{field, tangent, tests, Point};
 use crate::{first_not_finite, refuse_if};
 use input::{Refusal, System, MAX_DIMENSION};
 
-/// A step on its own: tests 7, 8, 9, 10, 19, 6, 2, then 16 and 17 on the moved values.
+/// A step on its own: tests 7, 8, 25, 9, 10, 19, 6, 2, then 16 and 17 on the moved values.
 pub fn step(
     system: &System,
     time: f64,
@@ -123,6 +123,25 @@ mod tests {
         assert_eq!(ask(2, 4, 2, 16, f64::NAN, 0.0), Err(Refusal::of(6)));
         assert_eq!(ask(2, 4, 2, 16, 0.0, 0.0), Err(Refusal::of(2)));
         assert_eq!(ask(2, 4, 2, 16, 0.0, 1.0), Ok(()));
+    }
+
+    #[test]
+    fn tests_of_a_ring_come_in_order() {
+        let ask = |cells: usize, state: usize, count: usize, time: f64, h: f64| {
+            let forcing = 8.0;
+            let mut state = vec![0.0; state];
+            let mut directions = vec![0.0; 4 * count.min(17)];
+            let system = System::Lorenz96 { cells, forcing };
+            step(&system, time, h, &mut state, &mut directions, count)
+        };
+        assert_eq!(ask(0, 1, 17, f64::NAN, 0.0), Err(Refusal::of(7)));
+        assert_eq!(ask(17, 1, 17, f64::NAN, 0.0), Err(Refusal::of(8)));
+        assert_eq!(ask(3, 1, 17, f64::NAN, 0.0), Err(Refusal::of(25)));
+        assert_eq!(ask(4, 3, 17, f64::NAN, 0.0), Err(Refusal::of(10)));
+        assert_eq!(ask(4, 4, 17, f64::NAN, 0.0), Err(Refusal::of(19)));
+        assert_eq!(ask(4, 4, 16, f64::NAN, 0.0), Err(Refusal::of(6)));
+        assert_eq!(ask(4, 4, 16, 0.0, 0.0), Err(Refusal::of(2)));
+        assert_eq!(ask(4, 4, 16, 0.0, 1.0), Ok(()));
     }
 
     #[test]

@@ -65,12 +65,25 @@ pub enum Entry {
     Largest,
 }
 
-/// A system, and whether the source may evaluate it. Where a test that document 01 adds fails,
-/// the source is asked for its own tests alone, and its first evaluation stops it.
+/// A system, and whether the source may evaluate it. Where a test that document 01 or 02 adds
+/// fails, the source is asked for its own tests alone, and its first evaluation stops it.
 #[derive(Clone, Copy, Debug)]
 pub struct Circuit<'a> {
     pub system: &'a System,
     pub may_evaluate: bool,
+    /// Read for a ring only.
+    pub neighbours: Neighbours,
+}
+
+/// How the index of a cell's neighbour is brought back into a ring. The results are the same; the
+/// times are not, so a benchmark takes both.
+#[derive(Clone, Copy, Debug, Default, PartialEq, Eq)]
+pub enum Neighbours {
+    /// By the remainder, as document 02 writes it: `(i + 1) % n`.
+    #[default]
+    Remainder,
+    /// By a comparison: `if i + 1 == n { 0 } else { i + 1 }`.
+    Comparison,
 }
 
 /// Where a run begins.

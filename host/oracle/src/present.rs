@@ -213,6 +213,7 @@ fn refusal(error: &LyapunovError, call: Call) -> Refusal {
 #[cfg(test)]
 mod tests {
     use super::*;
+    use crate::Neighbours;
     use input::System;
 
     fn linear(dimension: usize, matrix: &[f64]) -> System {
@@ -225,6 +226,7 @@ mod tests {
         let circuit = Circuit {
             system,
             may_evaluate,
+            neighbours: Neighbours::default(),
         };
         let mut settings = Settings::new(1, step_size, 2, 3);
         settings.transient_windows = 1;
@@ -242,6 +244,7 @@ mod tests {
         let circuit = Circuit {
             system: &linear(1, &[1.0]),
             may_evaluate: true,
+            neighbours: Neighbours::default(),
         };
         let step = Step {
             time: 0.0,
@@ -279,9 +282,12 @@ mod tests {
 
     #[test]
     fn tests_alone() {
-        let ask = |state: &[f64]| run(&linear(2, &[]), false, state, 1.0).end;
-        assert_eq!(ask(&[1.0]), refused(10, 0));
-        assert_eq!(ask(&[1.0, f64::NAN]), refused(11, 1));
-        assert_eq!(ask(&[1.0, 1.0]), End::Stopped);
+        let (cells, forcing) = (2, 8.0);
+        for system in [linear(2, &[]), System::Lorenz96 { cells, forcing }] {
+            let ask = |state: &[f64]| run(&system, false, state, 1.0).end;
+            assert_eq!(ask(&[1.0]), refused(10, 0));
+            assert_eq!(ask(&[1.0, f64::NAN]), refused(11, 1));
+            assert_eq!(ask(&[1.0, 1.0]), End::Stopped);
+        }
     }
 }

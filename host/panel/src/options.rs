@@ -9,11 +9,14 @@ usage: panel [OPTION VALUE]...    the Lyapunov spectrum of one system
        panel spectra              known spectra beside measured ones
 
 the system
-  --system NAME        lorenz, rossler, van-der-pol or linear (lorenz)
+  --system NAME        lorenz, rossler, van-der-pol, linear or lorenz96 (lorenz)
   --parameters A,B,C   sigma,rho,beta (10,28,8/3) or a,b,c (0.2,0.2,5.7) or mu (1)
+                       or, of a lorenz96 ring, forcing (8)
   --matrix A,B,...     of a linear system, row by row
-  --dimension N        of a linear system (the root of the number of its entries)
-  --state X,Y,...      where it starts (1,1,..; van-der-pol 2,0)
+  --dimension N        of a linear system (the root of the number of its entries), or the cells
+                       of a ring, 4 to 16 (8)
+  --state X,Y,...      where it starts (1,1,..; van-der-pol 2,0; lorenz96 the forcing F in all
+                       cells but the first, which is F+0.01)
   --time T             when it starts (0)
 the run
   -k, --top-k N        how many rates (the dimension)

@@ -3,6 +3,7 @@
 use field_lyapunov::{
     estimate_spectrum, BenettinConfig, LyapunovError, Rk4, SpectrumEstimate, System,
 };
+use std::f64::consts::TAU;
 use std::fmt::Write as _;
 
 /// A rate that is known, and how far off a measured one may be.
@@ -23,10 +24,12 @@ struct Case {
     /// Where the rates are from.
     known_from: &'static str,
     system: System,
-    state: &'static [f64],
+    state: Vec<f64>,
     /// Steps a window, windows, warm-up windows.
     counts: [usize; 3],
     known: Vec<Known>,
+    /// The sum of all rates, where it is known on its own.
+    sum: Option<Known>,
     faint: Faint,
 }
 
@@ -56,7 +59,7 @@ fn measured(case: &Case) -> Result<SpectrumEstimate, LyapunovError> {
     let config = BenettinConfig::new(case.known.len(), STEP, steps, windows)?;
     let stepper = Rk4::new(case.system.clone());
     let config = config.with_transient_windows(warm_up);
-    Ok(estimate_spectrum(&stepper, case.state, &config)?)
+    Ok(estimate_spectrum(&stepper, &case.state, &config)?)
 }
 
 fn write(text: &mut String, case: &Case, estimate: &SpectrumEstimate) -> bool {
@@ -68,17 +71,22 @@ fn write(text: &mut String, case: &Case, estimate: &SpectrumEstimate) -> bool {
     );
     text.push_str("  direction       known    measured  difference  tolerance  faint windows\n");
     let warns = estimate.faint_counts().iter().any(|count| *count > 0);
-    let mut as_known = warns == (case.faint == Faint::Some);
+    let judged = case.faint == Faint::None;
+    let mut as_known = warns != judged;
     let rows = estimate.exponents().iter().zip(estimate.faint_counts());
     for (direction, ((rate, faint), known)) in rows.zip(&case.known).enumerate() {
-        let difference = rate - known.rate;
-        let near = difference.abs() <= known.tolerance;
-        as_known &= near || case.faint == Faint::Some;
-        let (sought, tolerance) = (known.rate, known.tolerance);
-        let verdict = if near { "near" } else { "OFF" };
-        let _ = write!(text, "  {direction:>9}  {sought:>10.4}  {rate:>10.4}");
-        let _ = write!(text, "  {difference:>10.4}  {tolerance:>9.4}");
-        let _ = writeln!(text, "  {faint:>13}  {verdict}");
+        let near = line(
+            text,
+            &direction.to_string(),
+            known,
+            *rate,
+            &faint.to_string(),
+        );
+        as_known &= near || !judged;
+    }
+    if let Some(sum) = &case.sum {
+        let near = line(text, "sum", sum, estimate.exponents().iter().sum(), "");
+        as_known &= near || !judged;
     }
     if warns {
         text.push_str("  warned: faint windows; shorter windows are needed\n");
@@ -87,14 +95,29 @@ fn write(text: &mut String, case: &Case, estimate: &SpectrumEstimate) -> bool {
     as_known
 }
 
-fn known<const N: usize>(rates: [f64; N], tolerance: f64) -> Vec<Known> {
-    rates.map(|rate| Known { rate, tolerance }).into()
+/// A line of the table; answers whether the rate is near.
+fn line(text: &mut String, what: &str, known: &Known, rate: f64, faint: &str) -> bool {
+    let (sought, tolerance) = (known.rate, known.tolerance);
+    let difference = rate - sought;
+    let near = difference.abs() <= tolerance;
+    let verdict = if near { "near" } else { "OFF" };
+    let _ = write!(text, "  {what:>9}  {sought:>10.4}  {rate:>10.4}");
+    let _ = write!(text, "  {difference:>10.4}  {tolerance:>9.4}");
+    let _ = writeln!(text, "  {faint:>13}  {verdict}");
+    near
+}
+
+fn known(rates: impl IntoIterator<Item = f64>, tolerance: f64) -> Vec<Known> {
+    let known = |rate| Known { rate, tolerance };
+    rates.into_iter().map(known).collect()
 }
 
 fn cases() -> Vec<Case> {
     let mut cases = vec![lorenz(), rossler(), van_der_pol()];
     cases.extend(linear());
     cases.extend(oscillator());
+    cases.extend(settled_rings());
+    cases.push(chaotic_ring());
     cases
 }
 
@@ -107,9 +130,10 @@ fn lorenz() -> Case {
             rho: 28.0,
             beta: 8.0 / 3.0,
         },
-        state: &[1.0, 1.0, 1.0],
+        state: vec![1.0; 3],
         counts: [10, 100_000, 1_000],
         known: known([0.9056, 0.0, -14.572], 0.005),
+        sum: None,
         faint: Faint::None,
     }
 }
@@ -130,25 +154,27 @@ fn van_der_pol() -> Case {
         name: "van der Pol, mu 1, on its limit cycle",
         known_from: "a closed orbit, along which nothing grows or decays",
         system: System::VanDerPol { mu: 1.0 },
-        state: &[2.0, 0.0],
+        state: vec![2.0, 0.0],
         counts: [10, 50_000, 1_000],
         known: known([0.0], 0.001),
+        sum: None,
         faint: Faint::None,
     }
 }
 
 /// Systems whose rates are the real parts of the eigenvalues.
 fn linear() -> [Case; 3] {
-    let case = |name, dimension, matrix: &[f64], state, known| Case {
+    let case = |name, dimension, matrix: &[f64], state: &[f64], known| Case {
         name,
         known_from: "the eigenvalues",
         system: System::Linear {
             dimension,
             matrix: matrix.to_vec(),
         },
-        state,
+        state: state.to_vec(),
         counts: [10, 2_000, 500],
         known,
+        sum: None,
         faint: Faint::None,
     };
     [
@@ -192,9 +218,10 @@ fn oscillator() -> [Case; 2] {
                 0.0, 0.0, 0.0, -8.5,
             ],
         },
-        state: &[1.0, 0.0, 0.0, 0.0],
+        state: vec![1.0, 0.0, 0.0, 0.0],
         counts,
         known: known([-0.2, -0.2, -7.5, -8.5], 0.01),
+        sum: None,
         faint,
     };
     [
@@ -209,6 +236,62 @@ fn oscillator() -> [Case; 2] {
             Faint::None,
         ),
     ]
+}
+
+/// A ring with a cell for each rate, of which all but one start at its forcing. Its divergence is
+/// -1 for each cell, so the sum of the rates is known.
+fn ring(name: &'static str, known_from: &'static str, forcing: f64, known: Vec<Known>) -> Case {
+    let cells = known.len();
+    let mut state = vec![forcing; cells];
+    state[0] += 0.01;
+    let (rate, tolerance) = (-(cells as f64), 1e-4);
+    Case {
+        name,
+        known_from,
+        system: System::Lorenz96 { cells, forcing },
+        state,
+        counts: [10, 2_000, 500],
+        known,
+        sum: Some(Known { rate, tolerance }),
+        faint: Faint::None,
+    }
+}
+
+/// Rings with a weak forcing F settle where all cells equal it. With n cells the eigenvalues there
+/// have the real parts -1 + F (cos a - cos 2a), where a = 2 pi j / n.
+fn settled_rings() -> [Case; 2] {
+    let forcing = 0.5;
+    let case = |name, cells: usize| {
+        let rate = |j: usize| {
+            let angle = TAU * j as f64 / cells as f64;
+            -1.0 + forcing * (angle.cos() - (2.0 * angle).cos())
+        };
+        let mut rates: Vec<f64> = (0..cells).map(rate).collect();
+        rates.sort_by(|a, b| b.total_cmp(a));
+        let known_from = "the eigenvalues where it settles";
+        ring(name, known_from, forcing, known(rates, 1e-4))
+    };
+    [
+        case("Lorenz 96, 4 cells, forcing 0.5", 4),
+        case("Lorenz 96, 8 cells, forcing 0.5", 8),
+    ]
+}
+
+/// The rates are those of our own long run, which the model of this workspace made from the same
+/// start, with the same steps a window and 1,000 windows of warm-up.
+fn chaotic_ring() -> Case {
+    let rates = [
+        1.48372, 1.10263, 0.76099, 0.42922, 0.08910, 0.00002, -0.23834, -0.54527, -0.83674,
+        -1.12387, -1.42664, -1.78819, -2.25836, -2.94359, -4.04871, -4.65594,
+    ];
+    let (name, known_from) = (
+        "Lorenz 96, 16 cells, forcing 8",
+        "our own run of 1,000,000 windows by the model",
+    );
+    Case {
+        counts: [10, 40_000, 500],
+        ..ring(name, known_from, 8.0, known(rates, 0.03))
+    }
 }
 
 #[cfg(test)]
@@ -236,6 +319,17 @@ mod tests {
         assert!(!is_as_known(&case));
         case.known = known([f64::NAN], 10.0);
         assert!(!is_as_known(&case));
+    }
+
+    #[test]
+    fn a_sum_that_is_off_is_noticed() {
+        let mut case = short();
+        case.known = known([0.0], 10.0);
+        for (rate, near) in [(0.0, true), (20.0, false), (f64::NAN, false)] {
+            let tolerance = 10.0;
+            case.sum = Some(Known { rate, tolerance });
+            assert_eq!(is_as_known(&case), near);
+        }
     }
 
     #[test]

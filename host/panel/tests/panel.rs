@@ -53,6 +53,62 @@ fn without_options_it_is_near_the_known_values() {
     assert_eq!(value.field("seed").text(), "0x4c594150554e4f56");
 }
 
+/// The JSON of a ring with these words beside, and a short run.
+fn ring(words: &[&str]) -> json::Value {
+    let ring = ["--system=lorenz96", "--windows=2000", "--json"];
+    let output = panel(&[&ring, words].concat());
+    assert_eq!(output.status.code(), Some(0), "{}", stderr(&output));
+    json::read(&stdout(&output)).expect("JSON")
+}
+
+#[test]
+fn a_ring_is_chaotic_and_loses_volume() {
+    let value = ring(&[]);
+    let rates = value.field("exponents").floats();
+    assert_eq!(rates.len(), 8);
+    assert!((rates[0] - 1.6).abs() < 0.3, "{}", rates[0]);
+    let sum: f64 = rates.iter().sum();
+    assert!((sum + 8.0).abs() < 0.001, "{sum}");
+    assert_eq!(value.field("parameters").floats(), [8.0]);
+    assert_eq!(value.field("matrix").floats(), []);
+    assert_eq!(value.field("state_dimension").float(), 8.0);
+}
+
+#[test]
+fn a_ring_starts_beside_its_rest() {
+    for cells in ["4", "16"] {
+        for forcing in ["0", "1", "-2.5"] {
+            let forced = ["--dimension", cells, "--parameters", forcing];
+            let value = ring(&forced);
+            let state = value.field("initial_state").floats();
+            assert_eq!(state.len(), cells.parse().expect("a count"));
+            let forcing: f64 = forcing.parse().expect("a float");
+            assert_ne!(state[0], forcing);
+            assert!(state[1..].iter().all(|cell| *cell == forcing), "{state:?}");
+        }
+    }
+}
+
+#[test]
+fn more_rates_leave_the_earlier_bars_of_a_ring() {
+    let all = ring(&["--dimension=5"]).field("exponents").floats();
+    for k in 1..5 {
+        let few = ring(&["--dimension=5", "-k", &k.to_string()]);
+        assert_eq!(few.field("exponents").floats(), all[..k]);
+    }
+}
+
+#[test]
+fn the_text_of_a_ring_has_its_cells_and_its_forcing() {
+    let output = panel(&["--system=lorenz96", "--dimension=5", "--windows=10"]);
+    let text = stdout(&output);
+    assert!(
+        text.starts_with("lorenz96, dimension 5, forcing 8\n"),
+        "{text}"
+    );
+    assert!(text.contains("from (8.01, 8, 8, 8, 8) at time 0"), "{text}");
+}
+
 #[test]
 fn the_text_has_rates_dimension_entropy_and_faint_counts() {
     let output = panel(&["--windows", "2000"]);
@@ -243,13 +299,29 @@ fn unfit_words() {
     assert_unfit(&["--seed", "0xg"], "--seed: \"0xg\" is no number");
     assert_unfit(&["--system", "duffing"], "duffing is no system");
     assert_unfit(&["--parameters", "1,2"], "lorenz has 3, and 2 are given");
-    assert_unfit(&["--matrix", "1"], "go with --system linear only");
+    assert_unfit(
+        &["--matrix", "1"],
+        "--matrix goes with --system linear only",
+    );
     assert_unfit(&["--system", "linear"], "needs a --matrix");
     assert_unfit(
         &["--system=linear", "--matrix=1", "--parameters=1"],
         "has a --matrix instead",
     );
     assert_unfit(&["spectra", "--json"], "spectra takes no option");
+}
+
+#[test]
+fn unfit_words_of_a_ring() {
+    let ring = |word| ["--system=lorenz96", word];
+    assert_unfit(
+        &ring("--matrix=1"),
+        "--matrix goes with --system linear only",
+    );
+    assert_unfit(&ring("--parameters=8,8"), "lorenz96 has 1, and 2 are given");
+    let message = "--dimension goes with --system linear or lorenz96 only";
+    assert_unfit(&["--dimension=3"], message);
+    assert_unfit(&["--system=van-der-pol", "--dimension=2"], message);
 }
 
 #[test]
@@ -275,6 +347,17 @@ fn refusals_are_told_with_number_and_place() {
     assert_unfit(&["-k", "4"], "refused by 12");
     assert_unfit(&["--step", "1e308"], "refused by 15");
     assert_unfit(&["--parameters", "nan,28,2"], "refused by 16 at place 0");
+    let ring = |cells| ["--system", "lorenz96", "--dimension", cells];
+    assert_unfit(&ring("0"), "refused by 7");
+    assert_unfit(&ring("1"), "refused by 25 at place 0");
+    assert_unfit(&ring("3"), "refused by 25 at place 0");
+    assert_unfit(&ring("17"), "refused by 8");
+    assert_unfit(&ring("18446744073709551615"), "refused by 8");
+    for forcing in ["--parameters=nan", "--parameters=inf"] {
+        let words = ["--system=lorenz96", forcing];
+        assert_unfit(&words, "refused by 16 at place 0");
+    }
+    assert_unfit(&["--system=lorenz96", "-k", "9"], "refused by 12");
 }
 
 #[test]

@@ -29,6 +29,9 @@ enum-known-system c = search needs
 mul-result : tie.Need-mul-result
 mul-result c = record { fits = square-fits (c .before .before .system .given .0 .0) (c .if1 .taken) }
 
+enum-told-4 : tie.Need-enum-told-4
+enum-told-4 c = search needs
+
 returns : tie.Need-returns
 returns c = search needs
 
@@ -47,6 +50,9 @@ returns-5 c =
     let d = c .before .before .system .given .0 .0 in
     rw (c .before .before .system .given .1) (sym (ne-eqb _ (d * d) (λ e. omega (arith, square-large d (c .if1 .left)))))
 
+returns-6 : tie.Need-returns-6
+returns-6 c = search needs
+
 pub matrix-fits-spec : {M : Type 1} → statement M
 matrix-fits-spec =
     tie.close
@@ -56,8 +62,10 @@ matrix-fits-spec =
     enum-told-3
     enum-known-system
     mul-result
+    enum-told-4
     returns
     returns-2
     returns-3
     returns-4
-    returns-5)
+    returns-5
+    returns-6)

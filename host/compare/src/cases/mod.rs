@@ -22,6 +22,11 @@ use crate::line::Fields;
 use crate::values::Answer;
 use oracle::Source;
 
+/// The turn of the test `number` among `tests`.
+fn turn_in(tests: &[u64], number: u64) -> Option<usize> {
+    tests.iter().position(|test| *test == number)
+}
+
 /// A case without its answer.
 pub trait Case: Sized {
     const KIND: &'static str;
@@ -38,6 +43,11 @@ pub trait Case: Sized {
 
     /// What the source answers, where it has the behaviour.
     fn source(&self, source: &dyn Source) -> Option<Answer>;
+
+    /// The dimension and the number of directions, of a case that moves a system.
+    fn size(&self) -> Option<(usize, usize)> {
+        None
+    }
 
     /// A line of a list of cases.
     fn line(&self, id: &str, answer: &Answer, remark: &str) -> String {

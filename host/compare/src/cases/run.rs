@@ -1,6 +1,6 @@
 //! A whole run.
 
-use super::{settings, Called, Case};
+use super::{settings, turn_in, Called, Case};
 use crate::circuit::Circuit;
 use crate::lent::Lent;
 use crate::line::Fields;
@@ -125,6 +125,10 @@ impl Case for Run {
             End::Stopped => None,
         }
     }
+
+    fn size(&self) -> Option<(usize, usize)> {
+        Some((self.circuit.dimension(), self.settings.top_k))
+    }
 }
 
 impl Called for Run {
@@ -136,6 +140,9 @@ impl Called for Run {
 }
 
 impl Run {
+    /// The tests before the first step in their order.
+    pub const TESTS: [u64; 16] = [1, 2, 3, 4, 5, 6, 7, 8, 25, 9, 10, 11, 12, 13, 14, 15];
+
     /// A run with outputs that just fit.
     pub fn fitting(circuit: Circuit, settings: Settings, time: f64, state: Vec<f64>) -> Self {
         Self {
@@ -231,7 +238,7 @@ impl Run {
             || self.final_state < self.circuit.dimension()
     }
 
-    /// The source's first failing test of 1 to 12; nothing where one of 5, 8 and 9, which it does
+    /// The source's first failing test up to 12; nothing where one of 5, 8, 25 and 9, which it does
     /// not have, fails before it. It is stopped at its first evaluation.
     pub fn validated_by_source(&self, source: &dyn Source) -> Option<Refusal> {
         if !model::counts_over_limit(&self.settings).is_empty() {
@@ -244,8 +251,9 @@ impl Run {
             End::Refused(refusal) if refusal.number <= 12 => refusal,
             _ => Refusal::NONE,
         };
+        let turn = |number| turn_in(&Self::TESTS, number);
         match self.circuit.added_refusal() {
-            Some(added) if refusal == Refusal::NONE || refusal.number > added => None,
+            Some(added) if refusal == Refusal::NONE || turn(refusal.number) > turn(added) => None,
             _ => Some(refusal),
         }
     }
@@ -254,6 +262,7 @@ impl Run {
         let circuit = oracle::Circuit {
             system: &self.circuit.system,
             may_evaluate,
+            neighbours: Default::default(),
         };
         let start = Start {
             time: self.time,

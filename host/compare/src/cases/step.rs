@@ -1,6 +1,6 @@
 //! The step on its own.
 
-use super::{Called, Case};
+use super::{turn_in, Called, Case};
 use crate::circuit::Circuit;
 use crate::lent::Lent;
 use crate::line::Fields;
@@ -20,11 +20,7 @@ pub struct Step {
 }
 
 /// The tests of a step in their order.
-const ORDER: [u64; 7] = [7, 8, 9, 10, 19, 6, 2];
-
-fn turn_of(number: u64) -> Option<usize> {
-    ORDER.iter().position(|test| *test == number)
-}
+const TESTS: [u64; 8] = [7, 8, 25, 9, 10, 19, 6, 2];
 
 impl Case for Step {
     const KIND: &'static str = "step";
@@ -55,13 +51,14 @@ impl Case for Step {
         answered(answer.err().unwrap_or(Refusal::NONE), state, directions)
     }
 
-    /// Where a test that document 01 adds fails, the source is asked for the tests before it.
+    /// Where a test that the source does not have fails, it is asked for the tests before it.
     fn source(&self, source: &dyn Source) -> Option<Answer> {
         let many = (self.count > MAX_DIMENSION).then_some(19);
         let added = self.circuit.added_refusal().or(many);
         let circuit = oracle::Circuit {
             system: &self.circuit.system,
             may_evaluate: added.is_none(),
+            neighbours: Default::default(),
         };
         let (mut state, mut directions) = (self.state.clone(), self.directions.clone());
         let step = oracle::Step {
@@ -74,7 +71,8 @@ impl Case for Step {
         let refusal = match source.steps(circuit, step, 1) {
             End::Done(()) => Refusal::NONE,
             End::Refused(refusal) => {
-                let earlier = turn_of(refusal.number) <= added.and_then(turn_of);
+                let turn = |number| turn_in(&TESTS, number);
+                let earlier = turn(refusal.number) <= added.and_then(turn);
                 if added.is_some() && !earlier {
                     return None;
                 }
@@ -83,6 +81,10 @@ impl Case for Step {
             End::Stopped => return None,
         };
         Some(answered(refusal, state, directions))
+    }
+
+    fn size(&self) -> Option<(usize, usize)> {
+        Some((self.circuit.dimension(), self.count))
     }
 }
 

@@ -3,7 +3,7 @@
 
 use crate::bytes::{self, Bytes};
 use crate::cases::{Build, Called, Draw, Log, Orth, Rates, Root, Run, Step, Validate};
-use crate::circuit::Circuit;
+use crate::circuit::{Circuit, KINDS, LINEAR, RING};
 use crate::generate::seeds;
 use input::{Settings, MAX_COUNT};
 use lyapunov_sys::Arguments;
@@ -112,16 +112,17 @@ fn any(bytes: &mut Bytes) -> f64 {
 }
 
 fn circuit(bytes: &mut Bytes) -> Circuit {
-    let kind = match bytes.below(10) {
+    let kind = match bytes.below(14) {
         0..=1 => 0,
         2..=3 => 1,
         4..=5 => 2,
-        6..=8 => 3,
+        6..=8 => LINEAR,
+        9..=11 => RING,
+        12 => KINDS.len() as u64 + bytes.below(3) as u64,
         _ => bytes.number(),
     };
     let parameters = [bytes.float(), bytes.float(), bytes.float()];
-    let dimension = bytes.size();
-    let length = bytes.length(dimension.saturating_mul(dimension));
+    let (dimension, length) = size(bytes, kind);
     // Nothing moves with a matrix of zeros, so that long steps and long runs are met.
     let matrix = match bytes.below(6) {
         0 => vec![0.0; length],
@@ -133,6 +134,20 @@ fn circuit(bytes: &mut Bytes) -> Circuit {
         dimension,
         matrix: &matrix,
     })
+}
+
+/// A dimension and the length of a matrix. A ring does not read its matrix, which is short, so that
+/// bytes are left for the state.
+fn size(bytes: &mut Bytes, kind: u64) -> (usize, usize) {
+    let dimension = match kind {
+        RING if bytes.below(2) == 0 => 4 + bytes.below(13),
+        _ => bytes.size(),
+    };
+    let length = match kind {
+        RING => bytes.below(20),
+        _ => bytes.length(dimension.saturating_mul(dimension)),
+    };
+    (dimension, length)
 }
 
 fn settings(bytes: &mut Bytes) -> Settings {

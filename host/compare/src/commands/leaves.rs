@@ -21,7 +21,7 @@ const PUBLISHED: [u64; 5] = [
 /// Compares each leaf on at least `inputs.count` patterns.
 pub fn leaves(inputs: Inputs) -> bool {
     let source = source();
-    let mut random = Random::seeded(inputs.seed);
+    let mut random = inputs.random();
     let differ = [
         roots(inputs.count, &mut random),
         logarithms(inputs.count, &mut random),

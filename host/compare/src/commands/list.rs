@@ -2,6 +2,7 @@
 
 use super::many::{run_label, step_label, unlabelled};
 use crate::cases::{Build, Case, Draw, Log, Orth, Program, Rates, Root, Run, Step};
+use crate::circuit::{Systems, RING};
 use crate::generate::{self, edges, patterns, seeds};
 use crate::random::Random;
 use crate::tally::Tally;
@@ -26,6 +27,12 @@ const HEADER: &str = "\
 # may have.
 ";
 
+/// What stands before the cases of request a.
+const RINGS: &str = "\
+# Rings of cells, lorenz96:N with N cells and the forcing as its parameter: document 02's request a.
+# by=model: the source has no 25.
+";
+
 /// Lines longer than this are not taken from the random inputs.
 const LONGEST: usize = 1200;
 
@@ -34,7 +41,7 @@ pub fn write_list() -> Result<String, String> {
     let source = oracle::source().ok_or(format!("{NOT_AVAILABLE}: no list was written"))?;
     let mut list = List {
         source,
-        random: Random::seeded(1),
+        random: Random::seeded(1).with(Systems::Base),
         text: HEADER.to_string(),
         cases: 0,
     };
@@ -42,6 +49,7 @@ pub fn write_list() -> Result<String, String> {
     list.directions_and_steps()?;
     list.runs()?;
     list.settings_and_rates()?;
+    list.rings()?;
     println!("{} cases, {} bytes", list.cases, list.text.len());
     Ok(list.text)
 }
@@ -70,6 +78,14 @@ impl List {
         let line = case.line(&id, &model, &format!("by={by}, {remark}"));
         self.text.push_str(&line);
         self.text.push('\n');
+        Ok(())
+    }
+
+    /// Adds those of `cases`, each with two failing tests, that `belongs` lets in.
+    fn add_failing<C: Case>(&mut self, cases: &[C], belongs: fn(&C) -> bool) -> Result<(), String> {
+        for case in cases.iter().filter(|case| belongs(case)) {
+            self.add(case, "two failing tests")?;
+        }
         Ok(())
     }
 
@@ -153,9 +169,7 @@ impl List {
         self.add_random::<Orth>(20, 400, orth, unlabelled)?;
         self.add(&edges::marked_step(), "marked")?;
         let steps = generate::step::neighbours(&mut self.random);
-        for step in steps.iter().filter(|step| is_of_document(*step)) {
-            self.add(step, "two failing tests")?;
-        }
+        self.add_failing(&steps, is_of_document)?;
         self.add_random::<Step>(5, 6000, generate::step::step, step_label)
     }
 
@@ -170,9 +184,7 @@ impl List {
             self.add(&run, remark)?;
         }
         let runs = generate::broken_runs::neighbours(&mut self.random);
-        for run in runs.iter().filter(|run| is_of_document(*run)) {
-            self.add(run, "two failing tests")?;
-        }
+        self.add_failing(&runs, is_of_document)?;
         self.add_random::<Run>(5, 40_000, generate::runs::run, run_label)
     }
 
@@ -198,11 +210,37 @@ impl List {
         let bad = [0.0, f64::NAN].iter().flat_map(|x| x.to_le_bytes());
         self.add(&Program(bad.collect()), "a NaN")
     }
+
+    /// The cases of rings come last and from draws of their own: the lines before them stay.
+    fn rings(&mut self) -> Result<(), String> {
+        self.text.push_str(RINGS);
+        let mut runs = edges::edges_of_rings();
+        runs.extend(edges::edges_of_forcing());
+        runs.extend(edges::rings_with_a_matrix());
+        for (step, remark) in edges::steps_of_rings() {
+            self.add(&step, remark)?;
+        }
+        for (run, remark) in runs {
+            self.add(&run, remark)?;
+        }
+        let mut random = Random::seeded(1);
+        let steps = generate::step::neighbours(&mut random);
+        self.add_failing(&steps, is_of_ring)?;
+        let runs = generate::broken_runs::neighbours(&mut random);
+        self.add_failing(&runs, is_of_ring)?;
+        self.random = random.with(Systems::Of(RING));
+        self.add_random::<Step>(5, 2_000, generate::step::step, step_label)?;
+        self.add_random::<Run>(5, 4_000, generate::runs::run, run_label)
+    }
 }
 
 /// Whether document 01 has the case: a system of an unknown kind is known to the C interface only.
 fn is_of_document<C: Case>(case: &C) -> bool {
     !case.written().contains("sys=kind:")
+}
+
+fn is_of_ring<C: Case>(case: &C) -> bool {
+    case.written().contains("sys=lorenz96:")
 }
 
 /// Ends of the format, the infinities, a NaN and the bound of the logarithm's high word.

@@ -2,18 +2,21 @@
 
 use super::{source, Differences, Inputs};
 use crate::cases::{Build, Called, Orth, Rates, Run, Step, Validate};
-use crate::circuit::{Circuit, KINDS};
+use crate::circuit::{Kind, Systems, KINDS, RING};
 use crate::generate;
 use crate::random::Random;
-use crate::tally::{Tally, ENOUGH};
+use crate::tally::{Sizes, Tally, ENOUGH};
 use crate::values::{Answer, Value};
 
 /// What an answer is counted as, beside its refusal's number.
 type Label<C> = fn(&C, &Answer) -> String;
 
 pub fn step(inputs: Inputs) -> bool {
-    let mut expected = [2, 6, 7, 8, 9, 10, 19].map(|number| (number, "")).to_vec();
-    for kind in &KINDS {
+    let mut expected = vec![];
+    if inputs.systems.kind().is_none() {
+        expected.extend([2, 6, 7, 8, 9, 10, 19, 25].map(|number| (number, "")));
+    }
+    for kind in inputs.systems.kinds() {
         expected.extend([0, 16, 17].map(|number| (number, kind.label)));
     }
     compare::<Step>("step", inputs, generate::step::step, step_label, &expected)
@@ -38,13 +41,18 @@ pub fn settings(inputs: Inputs) -> bool {
 }
 
 pub fn validate(inputs: Inputs) -> bool {
-    let expected: Vec<(u64, &str)> = (0..=12).map(|number| (number, "")).collect();
+    let tests = (0..=12).chain([25]);
+    let expected: Vec<(u64, &str)> = tests.map(|number| (number, "")).collect();
     let generate = |index, random: &mut Random| Validate(generate::runs::run(index, random));
     compare::<Validate>("validate", inputs, generate, unlabelled, &expected)
 }
 
 pub fn runs(inputs: Inputs) -> bool {
-    let mut expected: Vec<(u64, &str)> = (1..=12).map(|number| (number, "")).collect();
+    if let Some(kind) = inputs.systems.kind() {
+        return runs_of(kind, inputs);
+    }
+    let tests = (1..=12).chain([25]);
+    let mut expected: Vec<(u64, &str)> = tests.map(|number| (number, "")).collect();
     expected.extend(KINDS.iter().map(|kind| (0, kind.label)));
     expected.extend([
         (0, FAINT),
@@ -68,10 +76,22 @@ pub fn runs(inputs: Inputs) -> bool {
     agree && (met == pairs || inputs.count < ENOUGH)
 }
 
+/// Runs of one kind. What must be met is what every kind can reach, and that rings become faint.
+fn runs_of(kind: &'static Kind, inputs: Inputs) -> bool {
+    let mut expected = vec![(0, kind.label), (15, "")];
+    if inputs.systems == Systems::Of(RING) {
+        expected.push((0, FAINT));
+    }
+    for number in [14, 16, 17] {
+        expected.extend([IN_WARM_UP, BEFORE_ROWS].map(|label| (number, label)));
+    }
+    compare::<Run>("runs", inputs, generate::runs::run, run_label, &expected)
+}
+
 /// Runs from time 0, by `estimate_largest` and by `estimate_spectrum`. From there the measured time
 /// is finite where the time is, and a first window that is measured at once does not refuse by 18.
 pub fn from_zero(inputs: Inputs) -> bool {
-    let mut expected: Vec<(u64, &str)> = [2, 3, 4, 5, 7, 8, 9, 10, 11, 13, 15]
+    let mut expected: Vec<(u64, &str)> = [2, 3, 4, 5, 7, 8, 25, 9, 10, 11, 13, 15]
         .map(|number| (number, ""))
         .to_vec();
     expected.extend(KINDS.iter().map(|kind| (0, kind.label)));
@@ -98,14 +118,10 @@ pub fn unlabelled<C>(_: &C, _: &Answer) -> String {
     String::new()
 }
 
-fn system_label(circuit: &Circuit) -> &'static str {
-    circuit.kind().map_or("", |kind| kind.label)
-}
-
 /// Which system was moved, where one was.
 pub fn step_label(step: &Step, answer: &Answer) -> String {
     let label = match answer.number() {
-        0 | 16 | 17 => system_label(&step.circuit),
+        0 | 16 | 17 => step.circuit.label(),
         _ => "",
     };
     label.to_string()
@@ -131,7 +147,7 @@ pub fn run_label(run: &Run, answer: &Answer) -> String {
         0 if infinite("mtime") => INFINITE_TIME,
         0 if infinite("rows") || infinite("exps") => INFINITE_RATE,
         0 if faint => FAINT,
-        0 => system_label(&run.circuit),
+        0 => run.circuit.label(),
         14 if count("made") == 0 => AT_DRAW,
         14 | 16 | 17 | 18 if count("finished") > 0 => AFTER_ROWS,
         // A collapse counts the steps of its window, the others do not count their step.
@@ -152,13 +168,17 @@ fn compare<C: Called>(
 ) -> bool {
     let reference = source();
     let count = inputs.count;
-    let mut random = Random::seeded(inputs.seed);
-    let (mut tally, mut differences, mut by_source) = (Tally::default(), Differences::default(), 0);
+    let mut random = inputs.random();
+    let (mut tally, mut sizes) = (Tally::default(), Sizes::default());
+    let (mut differences, mut by_source) = (Differences::default(), 0);
     for index in 0..count {
         let case = generate(index, &mut random);
         let model = case.model();
         let source = reference.and_then(|source| case.source(source));
         tally.count(model.number(), &label(&case, &model));
+        if let Some(size) = case.size().filter(|_| model.number() == 0) {
+            sizes.count(size);
+        }
         by_source += u64::from(source.is_some());
         if let Some(difference) = case.difference(&model, source.as_ref()) {
             let line = || case.line(&format!("{name}{index}"), &model, "by the model");
@@ -170,5 +190,6 @@ fn compare<C: Called>(
         "{name}: {count} inputs against the model, {by_source} of them against the source, {} differ",
         differences.count
     );
-    tally.covers(count, expected) && differences.count == 0
+    let sized = inputs.covered_by(&sizes);
+    tally.covers(count, expected) && sized && differences.count == 0
 }

@@ -14,13 +14,29 @@ pub use many::{from_zero, orthonormalise, rates, runs, settings, step, validate}
 pub use pairs::pairs;
 pub use replay::replay;
 
+use crate::circuit::Systems;
+use crate::random::Random;
+use crate::tally::Sizes;
 use oracle::{Source, NOT_AVAILABLE};
 
-/// How many inputs a comparison generates, and the seed that they come from.
+/// How many inputs a comparison generates, the seed that they come from, and their systems.
 #[derive(Clone, Copy, Debug)]
 pub struct Inputs {
     pub count: u64,
     pub seed: u64,
+    pub systems: Systems,
+}
+
+impl Inputs {
+    fn random(&self) -> Random {
+        Random::seeded(self.seed).with(self.systems)
+    }
+
+    /// Whether inputs of one kind had every size that it can have.
+    fn covered_by(&self, sizes: &Sizes) -> bool {
+        let kind = self.systems.kind();
+        kind.is_none_or(|kind| sizes.covers(self.count, &kind.dimensions))
+    }
 }
 
 /// Differences that are printed in full; the rest is only counted.

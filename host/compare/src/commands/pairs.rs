@@ -2,9 +2,10 @@
 
 use super::{Differences, Inputs};
 use crate::cases::{Case, Outcome, Run};
+use crate::circuit::{Systems, RING};
 use crate::generate;
 use crate::random::Random;
-use crate::tally::Tally;
+use crate::tally::{Sizes, Tally};
 use crate::values::{same, same_list};
 use input::Refusal;
 
@@ -13,8 +14,9 @@ const EQUAL: &str = ", equal";
 const NOT_EQUAL: &str = " at a direction k or above, not equal";
 
 pub fn pairs(inputs: Inputs) -> bool {
-    let mut random = Random::seeded(inputs.seed);
-    let (mut tally, mut against) = (Tally::default(), Differences::default());
+    let mut random = inputs.random();
+    let mut met = Met::default();
+    let mut against = Differences::default();
     let (mut pairs, mut index) = (0, 0);
     while pairs < inputs.count {
         let run = generate::runs::run(index, &mut random);
@@ -23,17 +25,42 @@ pub fn pairs(inputs: Inputs) -> bool {
             continue;
         };
         pairs += 1;
-        if let Err(broken) = judge(&longer, &shorter, &mut tally) {
+        if let Err(broken) = judge(&longer, &shorter, &mut met) {
             let k = shorter.settings.top_k;
             against.add(|| format!("pairs: {broken}, k={k} against {}", longer.written()));
         }
     }
     println!("By the refusal of the run for K:");
-    tally.print();
+    met.tally.print();
     println!("pairs: {pairs} pairs, {} against the claim", against.count);
-    let mut expected = vec![(14, NOT_EQUAL), (17, NOT_EQUAL)];
-    expected.extend([0, 2, 3, 4, 5, 6, 9, 10, 11, 14, 15, 16, 17, 18].map(|n| (n, EQUAL)));
-    tally.covers(pairs, &expected) && against.count == 0
+    let expected = expected(inputs.systems);
+    let expected: Vec<_> = expected.iter().map(|(n, label)| (*n, &label[..])).collect();
+    let sized = inputs.covered_by(&met.sizes);
+    met.tally.covers(pairs, &expected) && sized && against.count == 0
+}
+
+/// What the pairs met. Both runs of a pair have a size.
+#[derive(Default)]
+struct Met {
+    tally: Tally,
+    sizes: Sizes,
+}
+
+/// The refusals of the run for K, with the label, that must be met. Systems of one kind are drawn
+/// so that only their motion refuses them, and of these only rings so that a late direction often
+/// is the first that is refused.
+fn expected(systems: Systems) -> Vec<(u64, String)> {
+    let tests: &[u64] = match systems.kind() {
+        Some(_) => &[14, 15, 16, 17],
+        None => &[2, 3, 4, 5, 6, 25, 9, 10, 11, 14, 15, 16, 17, 18],
+    };
+    let mut expected: Vec<_> = tests.iter().map(|n| (*n, EQUAL.to_string())).collect();
+    if matches!(systems, Systems::All | Systems::Of(RING)) {
+        expected.extend([14, 17].map(|n| (n, NOT_EQUAL.to_string())));
+    }
+    let kinds = systems.kinds().iter();
+    expected.extend(kinds.map(|kind| (0, format!("{EQUAL}{}", kind.label))));
+    expected
 }
 
 /// The run for K, with 1 <= K <= d, and the one for a smaller k, or now and then for the same,
@@ -63,7 +90,7 @@ fn pair(run: Run, random: &mut Random) -> Option<(Run, Run)> {
 }
 
 /// Counts the side of a pair, or says what is broken.
-fn judge(longer: &Run, shorter: &Run, tally: &mut Tally) -> Result<(), String> {
+fn judge(longer: &Run, shorter: &Run, met: &mut Met) -> Result<(), String> {
     let (long, short) = (longer.outcome()?, shorter.outcome()?);
     let number = long.refusal.number;
     if number == 13 || short.refusal.number == 13 {
@@ -73,8 +100,17 @@ fn judge(longer: &Run, shorter: &Run, tally: &mut Tally) -> Result<(), String> {
     let equal = leading_equals(&long, longer.settings.top_k, &short, k);
     let above = refused_at_or_above(&long, k, longer.circuit.dimension());
     match (equal, above) {
-        (true, false) => tally.count(number, EQUAL),
-        (false, true) => tally.count(number, NOT_EQUAL),
+        (true, false) if number == 0 => {
+            let system = longer.circuit.label();
+            met.tally.count(number, &format!("{EQUAL}{system}"));
+            let sizes = [longer, shorter].map(Run::size);
+            sizes
+                .into_iter()
+                .flatten()
+                .for_each(|size| met.sizes.count(size));
+        }
+        (true, false) => met.tally.count(number, EQUAL),
+        (false, true) => met.tally.count(number, NOT_EQUAL),
         (true, true) => return Err("equal, though refused at k or above".to_string()),
         (false, false) => return Err("not equal".to_string()),
     }

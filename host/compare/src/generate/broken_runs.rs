@@ -2,7 +2,7 @@
 
 use super::circuits::{self, diagonal, known, linear};
 use super::seeds::seed_with_zero;
-use super::{bad_step_size, pair, pairs, runs, settings, wrong_length};
+use super::{bad_step_size, pair, pairs, runs, settings, tests_of, wrong_length};
 use crate::cases::Run;
 use crate::circuit::Circuit;
 use crate::random::Random;
@@ -12,7 +12,7 @@ type Break = fn(&mut Run, &mut Random);
 
 /// The failing tests, with the number of the refusal. Those that replace the circuit come first,
 /// so that they do not undo the others.
-const BREAKS: [(u64, Break); 22] = [
+const BREAKS: [(u64, Break); 23] = [
     (18, late_start),
     (7, |run, random| {
         let circuit = circuits::of_dimension_zero(random);
@@ -20,6 +20,10 @@ const BREAKS: [(u64, Break); 22] = [
     }),
     (8, |run, random| {
         let circuit = circuits::of_large_dimension(random);
+        replace(run, circuit, random)
+    }),
+    (25, |run, random| {
+        let circuit = circuits::of_few_cells(random);
         replace(run, circuit, random)
     }),
     (14, zero_draw),
@@ -63,25 +67,27 @@ pub const PAIRS: u64 = pairs(BREAKS.len()) as u64;
 
 /// The run with the failing tests of a pair; every pair has its turn.
 pub fn broken(index: u64, random: &mut Random) -> Run {
-    let (first, second) = pair(index, BREAKS.len());
+    let breaks = tests_of(&BREAKS, random);
+    let (first, second) = pair(index, breaks.len());
     let mut run = whole_run(random);
-    BREAKS[first].1(&mut run, random);
+    breaks[first].1(&mut run, random);
     if first != second {
-        BREAKS[second].1(&mut run, random);
+        breaks[second].1(&mut run, random);
     }
     run
 }
 
 /// Runs that fail two tests next to each other in the order of tests.
 pub fn neighbours(random: &mut Random) -> Vec<Run> {
-    let at = |number: u64| BREAKS.iter().position(|test| test.0 == number);
+    let breaks = tests_of(&BREAKS, random);
+    let at = |number: u64| breaks.iter().position(|test| test.0 == number);
     let mut run = |first: usize, second: usize| {
         let mut run = whole_run(random);
-        BREAKS[first.min(second)].1(&mut run, random);
-        BREAKS[first.max(second)].1(&mut run, random);
+        breaks[first.min(second)].1(&mut run, random);
+        breaks[first.max(second)].1(&mut run, random);
         run
     };
-    let tests: Vec<usize> = (1..=15).filter_map(at).collect();
+    let tests: Vec<usize> = Run::TESTS.into_iter().filter_map(at).collect();
     tests.windows(2).map(|two| run(two[0], two[1])).collect()
 }
 

@@ -1,6 +1,6 @@
 //! Document 01's marked examples and edges.
 
-use super::circuits::{diagonal, linear};
+use super::circuits::{diagonal, linear, ring};
 use super::runs::HALVING;
 use super::seeds::seed_with_draw;
 use crate::cases::{Case, Orth, Run, Step};
@@ -8,6 +8,7 @@ use crate::circuit::Circuit;
 use crate::random::Random;
 use crate::values::Answer;
 use input::{Refusal, Settings, System};
+use lyapunov_sys::Arguments;
 
 /// Settings with one step a window, one window, no warm-up and the default seed.
 pub fn settings(top_k: usize, step_size: f64) -> Settings {
@@ -216,6 +217,106 @@ pub fn edges_of_draws(random: &mut Random) -> Vec<(Run, &'static str)> {
     ]
 }
 
+/// A state whose entries differ, and are no whole numbers.
+fn uneven(d: usize) -> Vec<f64> {
+    let entry = |i: usize| 1.25 * i as f64 - 0.375 * (i * i % 5) as f64 - 1.1;
+    (0..d).map(entry).collect()
+}
+
+/// A run of a ring with one step a window, from uneven cells at time 0. Where it has very many
+/// cells, no memory has room for them.
+fn ring_run(cells: usize, forcing: f64, top_k: usize) -> Run {
+    let state = uneven(cells.min(17));
+    let length = state.len();
+    let mut run = Run::fitting(ring(cells, forcing), settings(top_k, 0.0625), 0.0, state);
+    run.final_state = length;
+    run
+}
+
+/// The edges of a ring's size and of its exponents, and every size with all its rates.
+pub fn edges_of_rings() -> Vec<(Run, &'static str)> {
+    let mut runs = vec![
+        (ring_run(0, 8.0, 1), "no cells"),
+        (ring_run(1, 8.0, 1), "1 cell"),
+        (ring_run(3, 8.0, 3), "3 cells"),
+        (ring_run(17, 8.0, 4), "17 cells"),
+        (ring_run(usize::MAX, 8.0, 4), "the most cells"),
+        (ring_run(4, 8.0, 5), "K = n + 1"),
+        (ring_run(16, 8.0, 17), "K = n + 1"),
+    ];
+    runs.extend((4..=16).map(|n| (ring_run(n, 8.0, n), "K = n")));
+    runs.extend((1..=4).map(|k| (with_windows(ring_run(5, 8.0, k), 2), "demand 3")));
+    runs
+}
+
+/// A forcing may have any bits; one that is not finite shows in the first state.
+pub fn edges_of_forcing() -> Vec<(Run, &'static str)> {
+    let forcings = [
+        (f64::NAN, "a NaN"),
+        (
+            f64::from_bits(0x7ff0_0000_0000_0001),
+            "a NaN of the other sort",
+        ),
+        (f64::INFINITY, "an infinity"),
+        (f64::NEG_INFINITY, "the negative infinity"),
+        (0.0, "no forcing"),
+        (-0.0, "-0.0"),
+        (f64::from_bits(1), "the smallest forcing"),
+        (f64::MIN_POSITIVE, "the smallest normal forcing"),
+        (f64::MAX, "the largest forcing"),
+        (-1e160, "a forcing whose square overflows"),
+    ];
+    let mut runs = forcings
+        .map(|(forcing, remark)| (ring_run(4, forcing, 2), remark))
+        .to_vec();
+    let mut rests = ring_run(6, 0.3, 6);
+    rests.state.fill(0.3);
+    runs.push((rests, "cells that equal the forcing rest"));
+    runs
+}
+
+/// A ring reads no matrix and tests none, whatever it is lent.
+pub fn rings_with_a_matrix() -> Vec<(Run, &'static str)> {
+    let lent = |length: usize| {
+        let mut run = ring_run(4, 8.0, 4);
+        run.circuit = Circuit::of_arguments(Arguments {
+            matrix: &vec![f64::NAN; length],
+            ..run.circuit.arguments()
+        });
+        (run, "a ring with a matrix")
+    };
+    [1, 15, 16, 17].map(lent).to_vec()
+}
+
+/// Steps of rings of every size; in those of zeros the order of the operations decides the signs.
+pub fn steps_of_rings() -> Vec<(Step, &'static str)> {
+    let step = |cells: usize, count: usize| Step {
+        circuit: ring(cells, 8.0),
+        step_size: 0.0625,
+        state: uneven(cells),
+        directions: uneven(cells * count),
+        count,
+        ..marked_step()
+    };
+    let mut steps: Vec<_> = (4..=16).map(|n| (step(n, 2), "a ring")).collect();
+    for (forcing, sign) in [(0.0, -0.0), (-0.0, 0.0), (-0.0, -0.0)] {
+        let mut zeros = step(4, 1);
+        zeros.circuit = ring(4, forcing);
+        zeros.state.fill(sign);
+        zeros.directions.fill(sign);
+        steps.push((zeros, "a ring of zeros"));
+    }
+    for (cells, remark) in [
+        (0, "no cells"),
+        (1, "1 cell"),
+        (3, "3 cells"),
+        (17, "17 cells"),
+    ] {
+        steps.push((step(cells, 1), remark));
+    }
+    steps
+}
+
 #[cfg(test)]
 mod tests {
     use super::*;
@@ -257,6 +358,19 @@ mod tests {
         let mut counts = vec![0; 16];
         counts[0] = 1;
         assert_eq!(answer.get("faint"), Some(&Value::Counts(counts)));
+    }
+
+    #[test]
+    fn the_sizes_of_rings_are_refused_in_their_order() {
+        let numbers = |runs: Vec<(Run, _)>| -> Vec<u64> {
+            runs.iter().map(|(run, _)| run.model().number()).collect()
+        };
+        let sizes = numbers(edges_of_rings());
+        assert_eq!(sizes[..7], [7, 25, 25, 8, 8, 12, 12]);
+        assert!(sizes[7..].iter().all(|number| *number == 0));
+        let forcings = numbers(edges_of_forcing());
+        assert_eq!(forcings[..4], [16; 4]);
+        assert_eq!(numbers(rings_with_a_matrix()), [0; 4]);
     }
 
     #[test]

@@ -1,6 +1,6 @@
 //! Runs that reach the end, and runs that are refused while they run.
 
-use super::circuits::{diagonal, dimension, known, linear, of_any_kind};
+use super::circuits::{cells, diagonal, dimension, has_rings, known, linear, of_any_kind, ring};
 use super::seeds::{seed_with_draw, seed_with_zero};
 use super::{broken_runs, settings};
 use crate::cases::Run;
@@ -11,6 +11,7 @@ use input::System;
 /// The run at `index`: families take turns, and some runs have outputs with room to spare.
 pub fn run(index: u64, random: &mut Random) -> Run {
     let mut run = match index % 16 {
+        _ if random.systems.kind().is_some() => of_one_kind(index, random),
         0 | 1 => chaotic(random),
         2 | 3 => linear_run(random),
         4 | 5 => decaying(random),
@@ -30,6 +31,17 @@ pub fn run(index: u64, random: &mut Random) -> Run {
         run.final_state += random.size_below(3);
     }
     run
+}
+
+/// A run of a family that takes a system of any kind.
+fn of_one_kind(index: u64, random: &mut Random) -> Run {
+    match index % 8 {
+        0..=3 => chaotic(random),
+        4 => overflowing(random),
+        5 => small_step(random),
+        6 => at_edges(random),
+        _ => special_draw(random),
+    }
 }
 
 /// How many of the runs before `index` have failing tests: the last two of every sixteen.
@@ -147,7 +159,11 @@ fn infinite_rate(random: &mut Random, d: usize, mut matrix: Vec<f64>) -> Run {
 
 /// Growth past the largest float: of the state (16), of directions (17), of squared lengths (14).
 fn overflowing(random: &mut Random) -> Run {
-    if random.one_in(3) {
+    if has_rings(random) && random.one_in(3) {
+        return resting_ring(random);
+    }
+    let one_kind = random.systems.kind().is_some();
+    if !one_kind && random.one_in(3) {
         return growing_rossler(random);
     }
     let d = 1 + random.size_below(4);
@@ -159,12 +175,41 @@ fn overflowing(random: &mut Random) -> Run {
         |_: &mut Random| 0.0,
         |_: &mut Random| -0.0,
     ]);
-    let circuit = if random.one_in(3) {
+    let circuit = if one_kind || random.one_in(3) {
         of_any_kind(random, 3, |random| random.power(20.0, 150.0))
     } else {
         linear(d, matrix)
     };
     short(random, circuit, step_size, state)
+}
+
+/// A ring whose cells all equal its forcing: the state rests. The directions grow with the forcing.
+/// Without one they shrink, and some become faint in a long window or collapse.
+fn resting_ring(random: &mut Random) -> Run {
+    if random.one_in(8) {
+        let forcing = random.pick(&[0.0, -0.0]);
+        // A step shrinks a direction by the most here.
+        let mut run = short(random, ring(4, forcing), 1.596, |_| 0.0);
+        run.settings.steps_per_window = random.within(250, 300);
+        run.settings.windows = random.within(1, 2);
+        return Run::fitting(run.circuit, run.settings, run.time, run.state);
+    }
+    // In a window of one step the growth is then near the largest square or the largest float, so
+    // that some directions pass it and others do not.
+    let near_bound = random.one_in(2);
+    let (low, high) = if near_bound {
+        random.pick(&[(38.4, 38.8), (76.7, 77.1)])
+    } else {
+        (0.0, 90.0)
+    };
+    let forcing = random.power(low, high);
+    let circuit = ring(cells(random, 16), forcing);
+    let mut run = short(random, circuit, 1.0, |_| 0.0);
+    run.state.fill(forcing);
+    if near_bound {
+        run.settings.steps_per_window = 1;
+    }
+    run
 }
 
 /// A Rössler system with z and b zero: x and y grow on their own and z rests, while its direction
@@ -275,7 +320,7 @@ fn whole(random: &mut Random) -> Run {
 
 /// A first draw of 0, which collapses in dimension 1, of -1 or of 1 - 2^-52.
 fn special_draw(random: &mut Random) -> Run {
-    let circuit = if random.one_in(2) {
+    let circuit = if random.systems.kind().is_none() && random.one_in(2) {
         linear(1, vec![random.ordinary()])
     } else {
         of_any_kind(random, 3, Random::ordinary)

@@ -1,20 +1,27 @@
 //! Steps on their own.
 
-use super::{bad_step_size, circuits, pair, wrong_length};
+use super::{bad_step_size, circuits, pair, tests_of, widely, wrong_length};
 use crate::cases::Step;
 use crate::circuit::Circuit;
 use crate::random::Random;
 
-/// The step at `index`. Every eighth has a pair of failing tests, each pair in its turn.
+/// The step at `index`. Every eighth has a pair of failing tests, each pair in its turn; where the
+/// systems are of one kind, no test fails.
 pub fn step(index: u64, random: &mut Random) -> Step {
-    if index.is_multiple_of(8) {
+    if index.is_multiple_of(8) && random.systems.kind().is_none() {
         return broken(index / 8, random);
     }
     let of_any_kind = |parameter: fn(&mut Random) -> f64| {
         move |random: &mut Random| circuits::of_any_kind(random, 16, parameter)
     };
-    match random.below(5) {
-        0 => moving(random, circuits::known, Random::ordinary),
+    // Where the systems are of one kind, half of the steps are everyday ones.
+    let families = if random.systems.kind().is_some() {
+        8
+    } else {
+        5
+    };
+    match random.below(families) {
+        0 | 5.. => moving(random, circuits::known, Random::ordinary),
         1 => moving(random, of_any_kind(Random::any), Random::any),
         2 => moving(
             random,
@@ -38,7 +45,7 @@ fn moving(
 ) -> Step {
     let circuit = circuit(random);
     let d = circuit.dimension();
-    let count = if random.one_in(3) {
+    let count = if widely(random, 3) {
         random.size_below(17)
     } else {
         random.size_below(4)
@@ -61,43 +68,52 @@ fn moving(
 
 type Break = fn(&mut Step, &mut Random);
 
-/// The failing tests in their order, of which those that replace the circuit come first.
-const BREAKS: [Break; 8] = [
-    |step, random| {
+/// The failing tests in their order, of which those that replace the circuit come first, with the
+/// number of the refusal.
+const BREAKS: [(u64, Break); 9] = [
+    (7, |step, random| {
         let circuit = circuits::of_dimension_zero(random);
         replace(step, circuit, random)
-    },
-    |step, random| {
+    }),
+    (8, |step, random| {
         let circuit = circuits::of_large_dimension(random);
         replace(step, circuit, random)
-    },
-    |step, random| {
+    }),
+    (25, |step, random| {
+        let circuit = circuits::of_few_cells(random);
+        replace(step, circuit, random)
+    }),
+    (9, |step, random| {
         let circuit = circuits::of_unfit_matrix(&step.circuit, random);
         replace(step, circuit, random)
-    },
-    unfit_state,
-    unfit_directions,
-    many_directions,
-    unfit_time,
-    |step, random| step.step_size = bad_step_size(random),
+    }),
+    (10, unfit_state),
+    (19, unfit_directions),
+    (19, many_directions),
+    (6, unfit_time),
+    (2, |step, random| step.step_size = bad_step_size(random)),
 ];
 
 fn broken(index: u64, random: &mut Random) -> Step {
-    let (first, second) = pair(index, BREAKS.len());
-    failing(first, second, random)
+    let breaks = tests_of(&BREAKS, random);
+    let (first, second) = pair(index, breaks.len());
+    failing(breaks[first].1, breaks[second].1, random)
 }
 
-fn failing(first: usize, second: usize, random: &mut Random) -> Step {
+fn failing(first: Break, second: Break, random: &mut Random) -> Step {
     let mut step = moving(random, circuits::known, Random::ordinary);
-    BREAKS[first](&mut step, random);
-    BREAKS[second](&mut step, random);
+    first(&mut step, random);
+    second(&mut step, random);
     step
 }
 
 /// Steps that fail two tests next to each other in the order of tests.
 pub fn neighbours(random: &mut Random) -> Vec<Step> {
-    let pairs = 1..BREAKS.len();
-    pairs.map(|at| failing(at - 1, at, random)).collect()
+    let breaks = tests_of(&BREAKS, random);
+    let pairs = breaks.windows(2);
+    pairs
+        .map(|two| failing(two[0].1, two[1].1, random))
+        .collect()
 }
 
 /// Another circuit, with a state and directions that fit it as far as it has a dimension.

@@ -73,6 +73,25 @@ fn edges_of_the_dimension() {
 }
 
 #[test]
+fn cells_of_a_ring_are_tested_after_the_time_and_before_the_state() {
+    let ask = |cells: usize, time: f64, state: &[f64], k: usize| {
+        let forcing = 8.0;
+        let system = System::Lorenz96 { cells, forcing };
+        validate(&system, time, state, &Settings::new(k, 1.0, 1, 1))
+    };
+    let state = [f64::NAN; 4];
+    assert_eq!(ask(3, f64::NAN, &state, 5), Err(Refusal::of(6)));
+    assert_eq!(ask(0, 0.0, &state, 5), Err(Refusal::of(7)));
+    assert_eq!(ask(17, 0.0, &state, 5), Err(Refusal::of(8)));
+    assert_eq!(ask(3, 0.0, &state, 5), Err(Refusal::of(25)));
+    assert_eq!(ask(3, 0.0, &state[..3], 5), Err(Refusal::of(25)));
+    assert_eq!(ask(5, 0.0, &state, 5), Err(Refusal::of(10)));
+    assert_eq!(ask(4, 0.0, &state, 5), Err(Refusal::at(11, 0)));
+    assert_eq!(ask(4, 0.0, &[1.0; 4], 5), Err(Refusal::of(12)));
+    assert_eq!(ask(4, 0.0, &[1.0; 4], 4), Ok(()));
+}
+
+#[test]
 fn edges_of_the_step_size() {
     let smallest = f64::from_bits(1);
     assert_eq!(Linear::new(&[0.0], 1, 1, smallest, 1, 1).refusal(), None);

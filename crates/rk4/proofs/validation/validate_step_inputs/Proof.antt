@@ -35,13 +35,13 @@ from n c = let a = start c .args in first-failing (drop n (step-tests (a .system
 dimension-accepted : (c : tie.After-enum-told) → none ≡ first-failing (dimension-tests (start c .args .system))
 dimension-accepted c = accepted _ (c .before .before .validate-dimension .ensures) (c .enum-told .given .1)
 
-past-matrix : (c : tie.After-enum-told2) {o : Option Refusal} → o ≡ from 3 (first c) → o ≡ from 0 (first c)
+past-matrix : (c : tie.After-enum-told2) {o : Option Refusal} → o ≡ from 4 (first c) → o ≡ from 0 (first c)
 past-matrix c h = behind _ _ (dimension-accepted (first c)) (behind _ _ (accepted _ (c .before .before .validate-matrix .ensures) (c .enum-told2 .given .1)) h)
 
-past-length : (c : tie.After-enum-told3) {o : Option Refusal} → o ≡ from 4 (first (second c)) → o ≡ from 0 (first (second c))
+past-length : (c : tie.After-enum-told3) {o : Option Refusal} → o ≡ from 5 (first (second c)) → o ≡ from 0 (first (second c))
 past-length c h = past-matrix (second c) (behind _ _ (accepted _ (c .before .before .validate-length .ensures) (c .enum-told3 .given .1)) h)
 
-past-tangents : (c : tie.After-enum-told4) {o : Option Refusal} → o ≡ from 6 (first (second (third c))) → o ≡ from 0 (first (second (third c)))
+past-tangents : (c : tie.After-enum-told4) {o : Option Refusal} → o ≡ from 7 (first (second (third c))) → o ≡ from 0 (first (second (third c)))
 past-tangents c h = past-length (third c) (behind _ _ (accepted _ (c .before .before .validate-tangents .ensures) (c .enum-told4 .given .1)) h)
 
 returns : tie.Need-returns

@@ -1,6 +1,6 @@
 -- `system::fixed::fixed_field` meets its contract: each arm is a case of the definition.
 use borrow.Author.Needs.{needs}
-use Rattle.system.proofs.Cases.{field-case}
+use Rattle.system.proofs.Cases.{not-fixed, field-case}
 use Rattle.system.proofs.fixed.fixed_field.Statement.{statement}
 use Rattle.system.proofs.fixed.fixed_field.Tie as tie
 
@@ -22,9 +22,6 @@ enum-known-system-3 c = search needs
 van-der-pol-field-requires : tie.Need-van-der-pol-field-requires
 van-der-pol-field-requires c κs = search needs
 
-enum-told : tie.Need-enum-told
-enum-told c = search needs
-
 returns : tie.Need-returns
 returns c = field-case (c .before .before .system .given .1) tt _ _ (c .lorenz-field .ensures)
 
@@ -35,7 +32,7 @@ returns-3 : tie.Need-returns-3
 returns-3 c = field-case (c .before .before .system3 .given .1) tt _ _ (c .van-der-pol-field .ensures)
 
 returns-4 : tie.Need-returns-4
-returns-4 c m = absurd (rw (c .enum-told .given .1) at (c .before .before .pre))
+returns-4 c m = absurd (not-fixed (c .before .args .system) (c .match .keys4) (c .before .pre))
 
 pub fixed-field-spec : {M : Type 1} → statement M
 fixed-field-spec =
@@ -47,7 +44,6 @@ fixed-field-spec =
     rossler-field-requires
     enum-known-system-3
     van-der-pol-field-requires
-    enum-told
     returns
     returns-2
     returns-3

@@ -1,7 +1,7 @@
 -- `system::fixed::fixed_tangent` meets its contract: each arm is a case of the definition.
 use borrow.Author.Needs.{needs}
 use Rattle.system.specs.System.{tangent}
-use Rattle.system.proofs.Cases.{tangent-case}
+use Rattle.system.proofs.Cases.{not-fixed, tangent-case}
 use Rattle.system.proofs.fixed.fixed_tangent.Statement.{statement}
 use Rattle.system.proofs.fixed.fixed_tangent.Tie as tie
 
@@ -23,9 +23,6 @@ enum-known-system-3 c = search needs
 van-der-pol-tangent-requires : tie.Need-van-der-pol-tangent-requires
 van-der-pol-tangent-requires c κs = search needs
 
-enum-told : tie.Need-enum-told
-enum-told c = search needs
-
 returns : tie.Need-returns
 returns c = tangent-case (c .before .before .system .given .1) tt _ _ _ (c .lorenz-tangent .ensures)
 
@@ -38,7 +35,7 @@ returns-3 : tie.Need-returns-3
 returns-3 c = tangent-case (c .before .before .system3 .given .1) tt _ _ _ (c .van-der-pol-tangent .ensures)
 
 returns-4 : tie.Need-returns-4
-returns-4 c m = absurd (rw (c .enum-told .given .1) at (c .before .before .pre))
+returns-4 c m = absurd (not-fixed (c .before .args .system) (c .match .keys4) (c .before .pre))
 
 pub fixed-tangent-spec : {M : Type 1} → statement M
 fixed-tangent-spec =
@@ -50,7 +47,6 @@ fixed-tangent-spec =
     rossler-tangent-requires
     enum-known-system-3
     van-der-pol-tangent-requires
-    enum-told
     returns
     returns-2
     returns-3
