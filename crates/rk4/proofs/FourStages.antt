@@ -17,12 +17,10 @@ use Rattle.rk4.proofs.Moves.{Computed, moved-front, points-of, computed
 abbrev Point : Float → ℕ → List Float → ℕ → List (List Float) → List Float → Type 0
 Point h w b i ks t = take w t ≡ entrywise (stage-rule h i) (map (take w) ks) (take w b)
 
--- the vector x of d entries, of which v are copied into the array b and w are computed: the points and the derivatives of the stages
-pub record Staged (d v w : ℕ) (h : Float) (x b : List Float) (f₁ f₂ f₃ f₄ : List Float → List Float) (t₂ t₃ t₄ k₁ k₂ k₃ k₄ : List Float) : Type 0 where
-  pub sized : length x ≡ d
-  pub copied : d ≤ v
+-- the vector x of d entries is at the front of the array b, of which w places are computed: the points and the derivatives of the stages
+pub record Staged (d w : ℕ) (h : Float) (x b : List Float) (f₁ f₂ f₃ f₄ : List Float → List Float) (t₂ t₃ t₄ k₁ k₂ k₃ k₄ : List Float) : Type 0 where
   pub within : d ≤ w
-  pub padded : b ≡ in16 (take v x)
+  pub front : take d b ≡ x
   pub derivative₁ : take d k₁ ≡ f₁ (take d b)
   pub point₂ : Point h w b 1 (k₁ ∷ []) t₂
   pub derivative₂ : take d k₂ ≡ f₂ (take d t₂)
@@ -31,8 +29,8 @@ pub record Staged (d v w : ℕ) (h : Float) (x b : List Float) (f₁ f₂ f₃ f
   pub point₄ : Point h w b 3 (k₃ ∷ k₂ ∷ k₁ ∷ []) t₄
   pub derivative₄ : take d k₄ ≡ f₄ (take d t₄)
 
-module _ {d v w : ℕ} {h : Float} {x b : List Float} {f₁ f₂ f₃ f₄ : List Float → List Float} {t₂ t₃ t₄ k₁ k₂ k₃ k₄ : List Float}
-    (s : Staged d v w h x b f₁ f₂ f₃ f₄ t₂ t₃ t₄ k₁ k₂ k₃ k₄) where
+module _ {d w : ℕ} {h : Float} {x b : List Float} {f₁ f₂ f₃ f₄ : List Float → List Float} {t₂ t₃ t₄ k₁ k₂ k₃ k₄ : List Float}
+    (s : Staged d w h x b f₁ f₂ f₃ f₄ t₂ t₃ t₄ k₁ k₂ k₃ k₄) where
   computed : Computed d w (s .within) b (rk4 h .points) (f₁ ∷ f₂ ∷ f₃ ∷ f₄ ∷ []) [] (k₄ ∷ k₃ ∷ k₂ ∷ k₁ ∷ [])
   unfolding Computed rk4 rule-at
   computed = (
@@ -49,27 +47,42 @@ module _ {d v w : ℕ} {h : Float} {x b : List Float} {f₁ f₂ f₃ f₄ : Lis
     ),
   )
 
-  start : take d b ≡ x
-  start = rw (s .padded, take-all v x (omega (arith, s .sized, s .copied))) (in16-take x d (s .sized))
-
-  -- n is what the update gives, and y is x with v places copied from it
-  pub four-stages : (n y : List Float) → take w n ≡ entrywise (rk4 h .update) (map (take w) (k₄ ∷ k₃ ∷ k₂ ∷ k₁ ∷ [])) (take w b)
-      → y ≡ take v (take (length x) n) ++ drop v x → y ≡ moved (rk4 h) (f₁ ∷ f₂ ∷ f₃ ∷ f₄ ∷ []) x
+  -- n is what the update gives, and y is its front
+  pub four-stages : (n y : List Float) → take w n ≡ entrywise (rk4 h .update) (map (take w) (k₄ ∷ k₃ ∷ k₂ ∷ k₁ ∷ [])) (take w b) → y ≡ take d n
+      → y ≡ moved (rk4 h) (f₁ ∷ f₂ ∷ f₃ ∷ f₄ ∷ []) x
   four-stages n y u e =
       let ks = k₄ ∷ k₃ ∷ k₂ ∷ k₁ ∷ [] in
       let fs = f₁ ∷ f₂ ∷ f₃ ∷ f₄ ∷ [] in
-      let l : length (take d n) ≤ v = rw length-take (omega (arith, s .copied)) in
-      let q : length x ≤ v = omega (arith, s .sized, s .copied) in
       e
-      ∙ rw (s .sized, take-all v (take d n) l, drop-of-length-le x q) (append-nil (take d n))
       ∙ entrywise-front (rk4 h .update) d w (s .within) ks b n u
       ∙ moved-front d w (s .within) b (rk4 h) fs ks computed
-      ∙ ap (moved (rk4 h) fs) start
+      ∙ ap (moved (rk4 h) fs) (s .front)
 
 -- ---- the state, whose stages have one map
 
-pub four-points : {d v w : ℕ} {h : Float} {x b : List Float} {f : List Float → List Float} {t₂ t₃ t₄ k₁ k₂ k₃ k₄ : List Float}
-    → Staged d v w h x b f f f f t₂ t₃ t₄ k₁ k₂ k₃ k₄ → map (take d) (b ∷ t₂ ∷ t₃ ∷ t₄ ∷ []) ≡ stage-points (rk4 h .points) f [] x
+pub four-points : {d w : ℕ} {h : Float} {x b : List Float} {f : List Float → List Float} {t₂ t₃ t₄ k₁ k₂ k₃ k₄ : List Float}
+    → Staged d w h x b f f f f t₂ t₃ t₄ k₁ k₂ k₃ k₄ → map (take d) (b ∷ t₂ ∷ t₃ ∷ t₄ ∷ []) ≡ stage-points (rk4 h .points) f [] x
 unfolding Computed points-of computed rk4 rule-at
-four-points {d} {v} {w} {h} {x} {b} {f} {t₂} {t₃} {t₄} {k₁} {k₂} {k₃} {k₄} s =
-    computed-points d w (s .within) b f (rk4 h .points) [] (k₄ ∷ k₃ ∷ k₂ ∷ k₁ ∷ []) (computed s) ∙ ap (stage-points (rk4 h .points) f []) (start s)
+four-points {d} {w} {h} {x} {b} {f} {t₂} {t₃} {t₄} {k₁} {k₂} {k₃} {k₄} s =
+    computed-points d w (s .within) b f (rk4 h .points) [] (k₄ ∷ k₃ ∷ k₂ ∷ k₁ ∷ []) (computed s) ∙ ap (stage-points (rk4 h .points) f []) (s .front)
+
+-- ---- an array in registers, into which v places of x are copied and from which y gets them back
+
+module _ (d v : ℕ) (x : List Float) (sized : length x ≡ d) (copied : d ≤ v) where
+  pub padded-front : (b : List Float) → b ≡ in16 (take v x) → take d b ≡ x
+  padded-front b e = rw (e, take-all v x (omega arith)) (in16-take x d sized)
+
+  pub copied-front : (n y : List Float) → y ≡ take v (take (length x) n) ++ drop v x → y ≡ take d n
+  copied-front n y e =
+      let l : length (take d n) ≤ v = rw length-take (omega arith) in
+      let q : length x ≤ v = omega arith in
+      e ∙ rw (sized, take-all v (take d n) l, drop-of-length-le x q) (append-nil (take d n))
+
+-- ---- an array in memory, into which x is loaded and from which y gets its length back
+
+module _ (d : ℕ) (x : List Float) (sized : length x ≡ d) where
+  pub loaded-front : (b : List Float) → take (length x) b ≡ x → take d b ≡ x
+  loaded-front b e = rw sized at e
+
+  pub stored-front : (n y : List Float) → y ≡ take (length x) n → y ≡ take d n
+  stored-front n y e = rw sized at e

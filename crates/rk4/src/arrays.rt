@@ -1,4 +1,5 @@
-// Vectors in arrays of 16. The width is a literal at most calls, so that a loop unrolls and the array stays in registers.
+// Vectors in arrays of 16. `zero_padded` and `copy_front` are for arrays in registers: the width is a literal at each call, so
+// that the loop unrolls. `load` and `store` are for arrays in memory: they copy pairs, which stay whole between two loops.
 ghost use mathlib.Core.Path.{_≡_};
 ghost use Prim.Native.Nat.{_≤_};
 ghost use mathlib.Core.List.{_++_};
@@ -32,5 +33,39 @@ pub fn copy_front(out: &mut [f64], from: [f64; 16], width: usize)
             out[i] = from[i];
         }
         i += 1;
+    }
+}
+
+// A vector into the front of an array.
+pub fn load(out: &mut [f64; 16], v: &[f64])
+    requires { ⌜ (length (now out) ≡ 16) × (length (now v) ≤ 16) ⌝ }
+    ensures { λ _. ⌜ (length (now (out .exit)) ≡ 16) × (take (length (now (v .entry))) (now (out .exit)) ≡ now (v .entry)) ⌝ }
+{
+    let n = v.len();
+    let mut i = 0usize;
+    while i + 1 < n {
+        out[i] = v[i];
+        out[i + 1] = v[i + 1];
+        i += 2;
+    }
+    if i < n {
+        out[i] = v[i];
+    }
+}
+
+// The front of an array into a vector.
+pub fn store(v: &mut [f64], from: [f64; 16])
+    requires { ⌜ length (now v) ≤ 16 ⌝ }
+    ensures { λ _. ⌜ now (v .exit) ≡ take (length (now (v .entry))) from ⌝ }
+{
+    let n = v.len();
+    let mut i = 0usize;
+    while i + 1 < n {
+        v[i] = from[i];
+        v[i + 1] = from[i + 1];
+        i += 2;
+    }
+    if i < n {
+        v[i] = from[i];
     }
 }

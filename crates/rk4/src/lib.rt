@@ -28,8 +28,8 @@ use error::Outcome;
 use system::System;
 
 // The state and every direction, by the body that is fastest. A matrix of more than 8 rows is transposed here, so that only a
-// step that needs it has room for it. A ring reads no columns: its matrix, whatever it is, stands in for them. The wide body
-// gets a system made anew, since `system` itself, if it is lent on, is copied before it is looked at: a third of a small step.
+// step that needs it has room for it. A ring reads no columns, so it is lent none. The wide body gets a system made anew and a
+// ring not the matrix, since what is lent on is copied before it is looked at: for `system` a third of a small step.
 fn advance_values(
     system: System,
     matrix: &[f64],
@@ -54,7 +54,8 @@ fn advance_values(
         }
         System::Lorenz96 { cells, forcing } => {
             let ring = System::Lorenz96 { cells, forcing };
-            wide::advance_wide(ring, matrix, state, tangents, count, h);
+            let none = [0.0; 0];
+            wide::advance_wide(ring, &none, state, tangents, count, h);
         }
         _ => fixed::advance_fixed(system, state, tangents, count, h),
     }

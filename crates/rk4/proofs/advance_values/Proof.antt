@@ -37,8 +37,11 @@ advance-wide-requires c κs = let q = fitting (c .before .before .before .before
 enum-known-system-2 : tie.Need-enum-known-system-2
 enum-known-system-2 c = search needs
 
+slice-aggregate-advance-wide-2 : tie.Need-slice-aggregate-advance-wide-2
+slice-aggregate-advance-wide-2 c = search needs
+
 advance-wide-requires-2 : tie.Need-advance-wide-requires-2
-advance-wide-requires-2 c κs = let k = c .before .before in let s = ring-start k in matched-fits (k .before .system2 .given .1) (s .args .tangents .now) (s .pre .0) (s .pre .1)
+advance-wide-requires-2 c κs = let k = c .before .before .before in let s = ring-start k in matched-fits (k .before .system2 .given .1) (s .args .tangents .now) (s .pre .0) (s .pre .1)
 
 advance-fixed-requires : tie.Need-advance-fixed-requires
 advance-fixed-requires c κs = let s = c .before .before .before .before .before .before in (is-fixed (s .args .system) (c .before .before .match .keys3), s .pre .0 .state, s .pre .1)
@@ -75,7 +78,7 @@ same-length-6 c = search needs
 returns-3 : tie.Need-returns-3
 returns-3 c =
     let a = c .before .before .before .before in
-    let k = a .before .before .before in
+    let k = a .before .before .before .before in
     let e = k .before .system2 .given .1 in
     matched-leaves e (a .advance-wide2 .ensures _ (ring-cells e (ring-start k .pre .0)))
 
@@ -99,6 +102,7 @@ advance-values-spec =
     slice-aggregate-advance-wide
     advance-wide-requires
     enum-known-system-2
+    slice-aggregate-advance-wide-2
     advance-wide-requires-2
     advance-fixed-requires
     same-length

@@ -6,7 +6,7 @@ use Rattle.system.specs.System.{dim, tangent}
 use Rattle.system.proofs.Cases.{fixed-dimension}
 use Rattle.system.proofs.Front.{tangent-front}
 use Rattle.rk4.specs.Stages.{latest}
-use Rattle.rk4.proofs.FourStages.{Staged, four-stages}
+use Rattle.rk4.proofs.FourStages.{Staged, four-stages, padded-front, copied-front}
 use Rattle.rk4.proofs.fixed.advance_direction.Statement.{statement}
 use Rattle.rk4.proofs.fixed.advance_direction.Tie as tie
 
@@ -27,22 +27,20 @@ returns c m =
     let d = dim (ar .system) in
     let few = fixed-dimension (ar .system) (s .pre .0) in
     let g = tangent (ar .system) m in
-    let front = tangent-front (ar .system) m in
-    let stages : Staged d 3 3 (ar .h) (ar .t .now) _ (g (take d (ar .x1 .now))) (g (take d (ar .x2 .now))) (g (take d (ar .x3 .now))) (g (take d (ar .x4 .now))) _ _ _ _ _ _ _ =
+    let derived = tangent-front (ar .system) m in
+    let stages : Staged d 3 (ar .h) (ar .t .now) _ (g (take d (ar .x1 .now))) (g (take d (ar .x2 .now))) (g (take d (ar .x3 .now))) (g (take d (ar .x4 .now))) _ _ _ _ _ _ _ =
     record {
-      sized = s .pre .1;
-      copied = few;
       within = few;
-      padded = t₁ .zero-padded .ensures;
-      derivative₁ = front _ _ _ (k₁ .fixed-tangent .ensures m);
+      front = padded-front d 3 (ar .t .now) (s .pre .1) few _ (t₁ .zero-padded .ensures);
+      derivative₁ = derived _ _ _ (k₁ .fixed-tangent .ensures m);
       point₂ = t₂ .stage-point .ensures;
-      derivative₂ = front _ _ _ (k₂ .fixed-tangent2 .ensures m);
+      derivative₂ = derived _ _ _ (k₂ .fixed-tangent2 .ensures m);
       point₃ = t₃ .stage-point2 .ensures;
-      derivative₃ = front _ _ _ (k₃ .fixed-tangent3 .ensures m);
+      derivative₃ = derived _ _ _ (k₃ .fixed-tangent3 .ensures m);
       point₄ = t₄ .stage-point3 .ensures;
-      derivative₄ = front _ _ _ (k₄ .fixed-tangent4 .ensures m);
+      derivative₄ = derived _ _ _ (k₄ .fixed-tangent4 .ensures m);
     } in
-    four-stages stages _ _ (u .update .ensures) (c .before .before .copy-front .ensures)
+    four-stages stages _ _ (u .update .ensures) (copied-front d 3 (ar .t .now) (s .pre .1) few _ _ (c .before .before .copy-front .ensures))
 
 pub advance-direction-spec : {M : Type 1} → statement M
 advance-direction-spec =

@@ -7,7 +7,7 @@ use Rattle.system.proofs.Cases.{fixed-dimension}
 use Rattle.system.proofs.Front.{field-front}
 use Rattle.rk4.specs.Stages.{latest}
 use Rattle.rk4.proofs.Advance.{state-moved}
-use Rattle.rk4.proofs.FourStages.{Staged, four-stages, four-points}
+use Rattle.rk4.proofs.FourStages.{Staged, four-stages, four-points, padded-front, copied-front}
 use Rattle.rk4.proofs.fixed.advance_state.Statement.{statement}
 use Rattle.rk4.proofs.fixed.advance_state.Tie as tie
 
@@ -28,22 +28,20 @@ returns c m =
     let d = dim (ar .system) in
     let few = fixed-dimension (ar .system) (s .pre .0) in
     let f = field (ar .system) m in
-    let front = field-front (ar .system) m in
-    let stages : Staged d 3 3 (ar .h) (ar .state .now) _ f f f f _ _ _ _ _ _ _ =
+    let derived = field-front (ar .system) m in
+    let stages : Staged d 3 (ar .h) (ar .state .now) _ f f f f _ _ _ _ _ _ _ =
     record {
-      sized = s .pre .1;
-      copied = few;
       within = few;
-      padded = x₁ .zero-padded .ensures;
-      derivative₁ = front _ _ (k₁ .fixed-field .ensures m);
+      front = padded-front d 3 (ar .state .now) (s .pre .1) few _ (x₁ .zero-padded .ensures);
+      derivative₁ = derived _ _ (k₁ .fixed-field .ensures m);
       point₂ = x₂ .stage-point .ensures;
-      derivative₂ = front _ _ (k₂ .fixed-field2 .ensures m);
+      derivative₂ = derived _ _ (k₂ .fixed-field2 .ensures m);
       point₃ = x₃ .stage-point2 .ensures;
-      derivative₃ = front _ _ (k₃ .fixed-field3 .ensures m);
+      derivative₃ = derived _ _ (k₃ .fixed-field3 .ensures m);
       point₄ = x₄ .stage-point3 .ensures;
-      derivative₄ = front _ _ (k₄ .fixed-field4 .ensures m);
+      derivative₄ = derived _ _ (k₄ .fixed-field4 .ensures m);
     } in (
-      four-stages stages _ _ (u .update .ensures) (c .before .before .copy-front .ensures) ∙ state-moved (ar .system) m (ar .h) (ar .state .now),
+      four-stages stages _ _ (u .update .ensures) (copied-front d 3 (ar .state .now) (s .pre .1) few _ _ (c .before .before .copy-front .ensures)) ∙ state-moved (ar .system) m (ar .h) (ar .state .now),
       four-points stages,
     )
 

@@ -4,7 +4,7 @@ use borrow.Author.Needs.{needs}
 use Rattle.floats.specs.Vector.{chunks}
 use Rattle.system.specs.System.{times}
 use Rattle.rk4.specs.Stages.{latest}
-use Rattle.rk4.proofs.FourStages.{Staged, four-stages}
+use Rattle.rk4.proofs.FourStages.{Staged, four-stages, padded-front, copied-front}
 use Rattle.rk4.proofs.narrow.advance_vector.Statement.{statement}
 use Rattle.rk4.proofs.narrow.advance_vector.Tie as tie
 
@@ -29,12 +29,10 @@ returns c m e t =
     let s = x₁ .before .before .before .before in
     let ar = s .args in
     let f = times (chunks (ar .d) (ar .d) m) in
-    let stages : Staged (ar .d) 8 8 (ar .h) (ar .v .now) _ f f f f _ _ _ _ _ _ _ =
+    let stages : Staged (ar .d) 8 (ar .h) (ar .v .now) _ f f f f _ _ _ _ _ _ _ =
     record {
-      sized = s .pre .2;
-      copied = s .pre .0;
       within = s .pre .0;
-      padded = x₁ .zero-padded .ensures;
+      front = padded-front (ar .d) 8 (ar .v .now) (s .pre .2) (s .pre .0) _ (x₁ .zero-padded .ensures);
       derivative₁ = k₁ .product .ensures m e t;
       point₂ = x₂ .stage-point .ensures;
       derivative₂ = k₂ .product2 .ensures m e t;
@@ -43,7 +41,7 @@ returns c m e t =
       point₄ = x₄ .stage-point3 .ensures;
       derivative₄ = k₄ .product4 .ensures m e t;
     } in
-    four-stages stages _ _ (u .update .ensures) (c .before .before .copy-front .ensures)
+    four-stages stages _ _ (u .update .ensures) (copied-front (ar .d) 8 (ar .v .now) (s .pre .2) (s .pre .0) _ _ (c .before .before .copy-front .ensures))
 
 pub advance-vector-spec : {M : Type 1} → statement M
 advance-vector-spec =

@@ -1,12 +1,19 @@
 -- `rk4::wide::advance_direction` meets its contract: d of the 16 places that are computed count.
 use native.Mathlib.Omega.{arith}
 use borrow.Author.Needs.{needs}
-use lib.ListN.{length, take}
+use lib.ListN.{take}
 use Rattle.system.specs.System.{dim, tangent}
 use Rattle.rk4.specs.Stages.{latest}
-use Rattle.rk4.proofs.FourStages.{Staged, four-stages}
+use Rattle.rk4.proofs.FourStages.{Staged, four-stages, loaded-front, stored-front}
 use Rattle.rk4.proofs.wide.advance_direction.Statement.{statement}
 use Rattle.rk4.proofs.wide.advance_direction.Tie as tie
+
+-- where the direction is loaded, and where the function begins
+abbrev loaded : tie.After-stage-point → tie.After-load
+loaded c = c .before .before .before .before
+
+abbrev start : tie.After-load → tie.Start
+start c = c .before .before .before .before .before
 
 returns : tie.Need-returns
 unfolding latest
@@ -19,17 +26,14 @@ returns c m e =
     let k₂ = t₃ .before in
     let t₂ = k₂ .before .before .before in
     let k₁ = t₂ .before in
-    let t₁ = k₁ .before .before .before in
-    let s = t₁ .before .before .before .before in
+    let s = start (loaded t₂) in
     let ar = s .args in
     let d = dim (ar .system) in
     let g = tangent (ar .system) m in
-    let stages : Staged d (length (ar .t .now)) 16 (ar .h) (ar .t .now) _ (g (take d (ar .x1 .now))) (g (take d (ar .x2 .now))) (g (take d (ar .x3 .now))) (g (take d (ar .x4 .now))) _ _ _ _ _ _ _ =
+    let stages : Staged d 16 (ar .h) (ar .t .now) _ (g (take d (ar .x1 .now))) (g (take d (ar .x2 .now))) (g (take d (ar .x3 .now))) (g (take d (ar .x4 .now))) _ _ _ _ _ _ _ =
     record {
-      sized = s .pre .0;
-      copied = omega (arith, s .pre .0);
       within = s .pre .1;
-      padded = t₁ .zero-padded .ensures;
+      front = loaded-front d (ar .t .now) (s .pre .0) _ (loaded t₂ .load .ensures .1);
       derivative₁ = k₁ .jacobian-vector-product .ensures .1 m e;
       point₂ = t₂ .stage-point .ensures;
       derivative₂ = k₂ .jacobian-vector-product2 .ensures .1 m e;
@@ -38,21 +42,21 @@ returns c m e =
       point₄ = t₄ .stage-point3 .ensures;
       derivative₄ = k₄ .jacobian-vector-product4 .ensures .1 m e;
     } in
-    four-stages stages _ _ (u .update .ensures) (c .before .before .copy-front .ensures)
+    four-stages stages _ _ (u .update .ensures) (stored-front d (ar .t .now) (s .pre .0) _ _ (c .before .before .store .ensures))
 
 pub advance-direction-spec : {M : Type 1} → statement M
 advance-direction-spec =
     tie.close
     (tie.spec
-    (λ c κs. search needs)
-    (λ c κs. search needs)
-    (λ c κs. omega arith)
+    (λ c κs. let s = c .before .before .before .before in (search needs, omega (arith, s .pre .0, s .pre .1)))
     (λ c κs. search needs)
     (λ c κs. omega arith)
     (λ c κs. search needs)
     (λ c κs. omega arith)
     (λ c κs. search needs)
     (λ c κs. omega arith)
-    (λ c κs. let e = c .before .before .before .before .before .before .before .before in let b = e .before .before .before .before .before .before .before .before in let s = b .before .before .before .before .before in omega (arith, s .pre .0, s .pre .1))
+    (λ c κs. search needs)
+    (λ c κs. omega arith)
+    (λ c κs. let t₂ = c .before .before .before .before .before .before .before .before .before .before .before .before .before in let s = start (loaded t₂) in omega (arith, s .pre .0, s .pre .1))
     (λ c. search needs)
     returns)
