@@ -1,0 +1,2 @@
+-- Runs by computation.
+pub mod Examples
