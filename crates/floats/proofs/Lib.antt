@@ -9,6 +9,7 @@ pub mod Pattern
 pub mod OneForm
 pub mod Ordinary
 pub mod Sets
+pub mod Parts
 pub mod Updated
 pub mod Fill
 pub mod Vector

@@ -7,8 +7,8 @@ use lib.ListN.{length}
 use lib.Ieee.{Float}
 use Rattle.floats.specs.Vector.{chunks, concat}
 use Rattle.lorenz96.specs.Around.{Cells}
-use Rattle.system.specs.System.{dim, field, tangent, times}
-use Rattle.system.specs.Evaluation.{Transposed, Held}
+use Rattle.matrix.specs.Matrix.{times, Transposed, Held}
+use Rattle.system.specs.System.{dim, field, tangent}
 use Rattle.system.specs.declared.System.{System}
 use Rattle.system.specs.declared.System.the-variants.{Linear, Lorenz96}
 use Rattle.rk4.specs.Stepper.{stage-points, moved, advance-by, rk4}

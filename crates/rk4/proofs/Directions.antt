@@ -10,7 +10,7 @@ use lib.Seq.{take-at, drop-at, drop-drop}
 use lib.Ieee.{Float}
 use Rattle.floats.specs.Vector.{part, chunks, concat}
 use Rattle.floats.proofs.Vector.{vector-fits, chunks-length, chunks-sized, map-sized, length-concat}
-use Rattle.system.proofs.Parts.{lent-length, back-length}
+use Rattle.floats.proofs.Parts.{lent-length, back-length}
 use Rattle.rk4.specs.Stepper.{Method, moved}
 use Rattle.rk4.proofs.Moves.{moved-length}
 

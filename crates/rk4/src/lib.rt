@@ -47,7 +47,7 @@ fn advance_values(
                 narrow::advance_narrow(matrix, d, state, tangents, count, h);
             } else {
                 let mut columns = [0.0; 256];
-                system::columns::transpose(matrix, d, 16, &mut columns);
+                matrix::transpose(matrix, d, 16, &mut columns);
                 let linear = System::Linear(d);
                 wide::advance_wide(linear, &columns, state, tangents, count, h);
             }

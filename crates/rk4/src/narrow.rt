@@ -6,14 +6,12 @@ ghost use mathlib.Core.List.{List, map};
 ghost use lib.ListN.{length};
 ghost use lib.Ieee.{Float};
 ghost use Rattle.floats.specs.Vector.{chunks, concat};
-ghost use Rattle.system.specs.System.{times};
-ghost use Rattle.system.specs.Evaluation.{Transposed};
+ghost use Rattle.matrix.specs.Matrix.{times, Transposed};
 ghost use Rattle.rk4.specs.Stepper.{rk4, moved};
 ghost use Rattle.rk4.specs.Stages.{Advances, alike};
 use crate::arrays;
 use crate::method;
 use system::System;
-use system::columns;
 
 // The state or a direction.
 fn advance_vector(columns: &[f64], d: usize, v: &mut [f64], h: f64)
@@ -22,13 +20,13 @@ fn advance_vector(columns: &[f64], d: usize, v: &mut [f64], h: f64)
         ≡ moved (rk4 h) (alike (times (chunks d d m))) (now (v .entry))) ⌝ }
 {
     let x1 = arrays::zero_padded(v, 8);
-    let k1 = columns::product(columns, d, &x1, 8);
+    let k1 = matrix::product(columns, d, &x1, 8);
     let x2 = method::stage_point(1, x1, k1, k1, k1, h, 8);
-    let k2 = columns::product(columns, d, &x2, 8);
+    let k2 = matrix::product(columns, d, &x2, 8);
     let x3 = method::stage_point(2, x1, k1, k2, k2, h, 8);
-    let k3 = columns::product(columns, d, &x3, 8);
+    let k3 = matrix::product(columns, d, &x3, 8);
     let x4 = method::stage_point(3, x1, k1, k2, k3, h, 8);
-    let k4 = columns::product(columns, d, &x4, 8);
+    let k4 = matrix::product(columns, d, &x4, 8);
     let next = method::update(x1, k1, k2, k3, k4, h, 8);
     arrays::copy_front(v, next, 8);
 }
@@ -61,7 +59,7 @@ pub fn advance_narrow(
     ensures { λ _. ⌜ Advances (System.Linear d) (now (matrix .entry)) h (now (state .entry)) (now (tangents .entry)) count (now (state .exit)) (now (tangents .exit)) ⌝ }
 {
     let mut columns = [0.0; 64];
-    columns::transpose(matrix, d, 8, &mut columns);
+    matrix::transpose(matrix, d, 8, &mut columns);
     advance_vector(&columns, d, state, h);
     advance_vectors(&columns, d, tangents, count, h);
 }

@@ -8,10 +8,9 @@ use types.Run.{OneOf, miss}
 use denote.Enum.Declared.{tagOf}
 use lib.ListN.{take}
 use lib.Ieee.{Float}
-use Rattle.floats.specs.Vector.{chunks}
-use Rattle.system.specs.System.{dim, cells-fit, field, tangent, times}
+use Rattle.system.specs.System.{dim, cells-fit, field, tangent}
 use Rattle.system.specs.Array.{in16}
-use Rattle.system.specs.Evaluation.{Fixed, Held, Columns}
+use Rattle.system.specs.Evaluation.{Fixed, Columns}
 use Rattle.system.specs.declared.System.{System}
 use Rattle.system.specs.declared.System.the-variants.{Lorenz, Rossler, VanDerPol, Linear, Lorenz96}
 use Rattle.system.proofs.System.{the-type}

@@ -6,12 +6,12 @@ use lib.ListN.{length, take}
 use lib.Seq.{getD-take}
 use lib.Ieee.{Float, nan}
 use Rattle.lorenz96.proofs.Ring as Ring
+use Rattle.matrix.proofs.Times.{times-length, times-few}
 use Rattle.system.specs.System.{dim, field, tangent}
 use Rattle.system.specs.Array.{in16}
 use Rattle.system.specs.declared.System.{System}
 use Rattle.system.specs.declared.System.the-variants.{Lorenz, Rossler, VanDerPol, Linear, Lorenz96}
 use Rattle.system.proofs.Padding.{in16-take}
-use Rattle.system.proofs.Times.{times-length, times-few}
 
 pub field-length : (S : System) (m x : List Float) → length (field S m x) ≡ dim S
 unfolding field

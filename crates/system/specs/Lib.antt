@@ -1,4 +1,4 @@
--- What the contracts cite: the systems, their tests, vectors in the code's arrays, and examples; then how the code holds a matrix.
+-- What the contracts cite: the systems, their tests, vectors in the code's arrays, and examples; then what evaluating a system asks for.
 pub mod System
 pub mod Tests
 pub mod Array

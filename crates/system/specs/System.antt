@@ -1,13 +1,14 @@
 -- Document 01, "System", and document 02, a): the vector fields and their tangent maps. Operations are rounded in the order written. Definitions only.
 use Prim.Native.Nat.{ℕ, _*_}
 use mathlib.Core.Bool.{Bool, true}
-use mathlib.Core.List.{List, [], _∷_, map}
+use mathlib.Core.List.{List, [], _∷_}
 use lib.Dec.{eqb, leb}
 use lib.ListN.{length, getD}
 use lib.Ieee.{Float, nan, neg}
-use Rattle.floats.specs.Arithmetic.{_⊕_, _⊖_, _⊗_, zero⁺, one, minus-two}
-use Rattle.floats.specs.Vector.{dot-from, chunks}
+use Rattle.floats.specs.Arithmetic.{_⊕_, _⊖_, _⊗_, one, minus-two}
+use Rattle.floats.specs.Vector.{chunks}
 use Rattle.lorenz96.specs.Ring.{ring-field, ring-tangent}
+use Rattle.matrix.specs.Matrix.{times}
 use Rattle.system.specs.declared.System.{System}
 use Rattle.system.specs.declared.System.the-variants.{Lorenz, Rossler, VanDerPol, Linear, Lorenz96}
 
@@ -33,11 +34,6 @@ cells-fit (Rossler a b c) = true
 cells-fit (VanDerPol μ) = true
 cells-fit (Linear d) = true
 cells-fit (Lorenz96 n F) = leb 4 n
-
--- the product of a matrix, given by its rows, and a vector: each sum starts at +0.0
-unfoldable pub times : List (List Float) → List Float → List Float
-unfolding dot-from
-times rows v = map (λ r. dot-from zero⁺ r v) rows
 
 abbrev at : List Float → ℕ → Float
 at v i = getD v i nan

@@ -1,13 +1,12 @@
 // The systems of documents 01 and 02: dimension, vector field and tangent map of each (source: system.rs).
 //
 // Every function equals a definition of specs/System.antt: start reading there. `vector_field` and
-// `jacobian_vector_product` evaluate any system. fixed.rt has the formulas of the systems of fixed dimension, columns.rt the
+// `jacobian_vector_product` evaluate any system. fixed.rt has the formulas of the systems of fixed dimension, crate matrix the
 // product with the matrix of a linear one, crate lorenz96 the cells of a ring, validation.rt the tests of a system and of what
-// is lent beside it (specs/Tests.antt). specs/Evaluation.antt only says how the code holds a matrix.
+// is lent beside it (specs/Tests.antt). specs/Evaluation.antt only says what evaluating a system asks for.
 //
 // Another system adds a case to `System` and to `dim`, `field` and `tangent` of specs/System.antt, an arm to each function
 // below, and its formulas, in fixed.rt or in a file of its own.
-pub mod columns;
 pub mod fixed;
 pub mod validation;
 
@@ -91,7 +90,7 @@ pub fn vector_field(system: System, columns: &[f64], x: &[f64; 16], out: &mut [f
         × ((m : List Float) → Columns system m (now (columns .entry)) → take (dim system) (now (out .exit)) ≡ field system m (take (dim system) (now (x .entry)))) ⌝ }
 {
     match system {
-        System::Linear(d) => columns::wide_product(columns, d, x, out),
+        System::Linear(d) => matrix::wide_product(columns, d, x, out),
         System::Lorenz96 { cells, forcing } => lorenz96::vector_field(cells, forcing, x, out),
         _ => {
             let entries = fixed::fixed_field(system, x);
@@ -113,7 +112,7 @@ pub fn jacobian_vector_product(
         × ((m : List Float) → Columns system m (now (columns .entry)) → take (dim system) (now (out .exit)) ≡ tangent system m (take (dim system) (now (x .entry))) (take (dim system) (now (t .entry)))) ⌝ }
 {
     match system {
-        System::Linear(d) => columns::wide_product(columns, d, t, out),
+        System::Linear(d) => matrix::wide_product(columns, d, t, out),
         System::Lorenz96 { cells, forcing: _ } => lorenz96::jacobian_vector_product(
             cells,
             x,

@@ -1,5 +1,8 @@
 // The matrix of a linear system by columns, and its product with a vector.
 //
+// `product` and `wide_product` equal `times` of specs/Matrix.antt: start reading there. `transpose` makes the columns that they
+// read. Crate system has linear systems, with the test of their matrix; only that crate and rk4 call these three.
+//
 // A product sums all rows at once, a column at a time, at a literal width: the sums run side by side, and each still adds in
 // index order. So the matrix is transposed once a step, into columns of 8 or 16 entries.
 ghost use mathlib.Core.Path.{_≡_};
@@ -9,8 +12,7 @@ ghost use lib.ListN.{length, take, getD};
 ghost use lib.Ieee.{Float, nan};
 ghost use Rattle.floats.specs.Arithmetic.{_⊕_, _⊗_};
 ghost use Rattle.floats.specs.Vector.{chunks};
-ghost use Rattle.system.specs.System.{times};
-ghost use Rattle.system.specs.Evaluation.{Transposed, Held};
+ghost use Rattle.matrix.specs.Matrix.{times, Transposed, Held};
 
 // Row i of a matrix, as entry i of each column. A column has `width` entries.
 fn put_row(columns: &mut [f64], width: usize, i: usize, row: &[f64])

@@ -1,13 +1,13 @@
--- `system::columns::product` meets its contract. The loop's invariant: every row's sum has taken the first j columns.
+-- `matrix::product` meets its contract. The loop's invariant: every row's sum has taken the first j columns.
 use Prim.Native.Nat.{_≤_, _-_}
 use native.Mathlib.Omega.{arith}
 use mathlib.Core.Path.{_≡_, refl}
 use borrow.Author.Needs.{needs}
 use lib.ListN.{length}
 use lib.Ieee.{ofBits}
-use Rattle.system.proofs.Transposition.{column-fits, Summed, summed-none, summed-next, summed-all}
-use Rattle.system.proofs.columns.product.Statement.{statement}
-use Rattle.system.proofs.columns.product.Tie as tie
+use Rattle.matrix.proofs.Transposition.{column-fits, Summed, summed-none, summed-next, summed-all}
+use Rattle.matrix.proofs.product.Statement.{statement}
+use Rattle.matrix.proofs.product.Tie as tie
 
 abbrev Inv-loop : tie.InvT-loop
 Inv-loop columns d x width sums₀ j₀ sums j = (j ≤ d) × (length sums ≡ 16) × Summed width d columns x j sums

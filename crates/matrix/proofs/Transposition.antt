@@ -11,10 +11,9 @@ use lib.Ieee.{Float, nan}
 use Rattle.floats.specs.Arithmetic.{_⊕_, _⊗_, zero⁺}
 use Rattle.floats.specs.Vector.{dot-from, part, chunks}
 use Rattle.floats.proofs.Vector.{vector-fits}
-use Rattle.system.specs.System.{times}
-use Rattle.system.specs.Evaluation.{Transposed}
-use Rattle.system.proofs.Parts.{lent-length, part-at}
-use Rattle.system.proofs.Times.{row-next, row-end, times-front, times-few}
+use Rattle.floats.proofs.Parts.{lent-length, part-at}
+use Rattle.matrix.specs.Matrix.{times, Transposed}
+use Rattle.matrix.proofs.Times.{row-next, row-end, times-front, times-few}
 
 -- ---- the places
 

@@ -10,9 +10,9 @@ use lib.Ieee.{Float, nan}
 use Rattle.floats.specs.Arithmetic.{_⊕_, _⊗_, zero⁺}
 use Rattle.floats.specs.Vector.{dot-from, part, chunks}
 use Rattle.floats.proofs.Sets.{part-length}
+use Rattle.floats.proofs.Parts.{part-at}
 use Rattle.floats.proofs.Vector.{dot-next, dot-end, chunks-at, chunks-length}
-use Rattle.system.specs.System.{times}
-use Rattle.system.proofs.Parts.{part-at}
+use Rattle.matrix.specs.Matrix.{times}
 
 -- ---- a row of d entries from place a on: one more product, and the end
 

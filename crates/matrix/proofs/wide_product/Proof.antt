@@ -1,8 +1,8 @@
--- `system::columns::wide_product` meets its contract: where the columns hold a matrix, the product is made.
+-- `matrix::wide_product` meets its contract: where the columns hold a matrix, the product is made.
 use native.Mathlib.Omega.{arith}
 use borrow.Author.Needs.{needs}
-use Rattle.system.proofs.columns.wide_product.Statement.{statement}
-use Rattle.system.proofs.columns.wide_product.Tie as tie
+use Rattle.matrix.proofs.wide_product.Statement.{statement}
+use Rattle.matrix.proofs.wide_product.Tie as tie
 
 returns : tie.Need-returns
 returns c = (search needs, λ m q. absurd (omega (arith, q .within)))

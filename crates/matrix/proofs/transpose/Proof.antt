@@ -1,14 +1,14 @@
--- `system::columns::transpose` meets its contract. The loop's invariant: the first i rows are put.
+-- `matrix::transpose` meets its contract. The loop's invariant: the first i rows are put.
 use Prim.Native.Nat.{_+_, _*_, _≤_, _-_}
 use native.Mathlib.Omega.{arith}
 use mathlib.Core.Path.{_≡_, refl, _∙_}
 use borrow.Author.Needs.{needs}
 use lib.ListN.{length}
 use Rattle.floats.proofs.Vector.{vector-fits}
-use Rattle.system.proofs.Parts.{lent-length}
-use Rattle.system.proofs.Transposition.{Rows, rows-next}
-use Rattle.system.proofs.columns.transpose.Statement.{statement}
-use Rattle.system.proofs.columns.transpose.Tie as tie
+use Rattle.floats.proofs.Parts.{lent-length}
+use Rattle.matrix.proofs.Transposition.{Rows, rows-next}
+use Rattle.matrix.proofs.transpose.Statement.{statement}
+use Rattle.matrix.proofs.transpose.Tie as tie
 
 abbrev Inv-loop : tie.InvT-loop
 Inv-loop matrix d width columns₀ i₀ columns i = (i ≤ d) × (length columns ≡ length columns₀) × Rows width d matrix i columns

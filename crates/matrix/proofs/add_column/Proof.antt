@@ -1,12 +1,12 @@
--- `system::columns::add_column` meets its contract. The loop's invariant: the first i sums have taken their product, and the others are as they were.
+-- `matrix::add_column` meets its contract. The loop's invariant: the first i sums have taken their product, and the others are as they were.
 use Prim.Native.Nat.{_≤_, _-_}
 use native.Mathlib.Omega.{arith}
 use mathlib.Core.Path.{_≡_, refl}
 use borrow.Author.Needs.{needs}
 use lib.ListN.{length, length-set}
-use Rattle.system.proofs.Transposition.{Taken, Waiting, taken-next, waiting-next}
-use Rattle.system.proofs.columns.add_column.Statement.{statement}
-use Rattle.system.proofs.columns.add_column.Tie as tie
+use Rattle.matrix.proofs.Transposition.{Taken, Waiting, taken-next, waiting-next}
+use Rattle.matrix.proofs.add_column.Statement.{statement}
+use Rattle.matrix.proofs.add_column.Tie as tie
 
 abbrev Inv-loop : tie.InvT-loop
 Inv-loop columns a x width out₀ i₀ out i = (i ≤ width) × (length out ≡ 16) × Taken columns a x out₀ i out × Waiting out₀ i out

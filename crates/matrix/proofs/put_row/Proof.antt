@@ -1,12 +1,12 @@
--- `system::columns::put_row` meets its contract. The loop's invariant: the first j entries are put, and every other row is kept.
+-- `matrix::put_row` meets its contract. The loop's invariant: the first j entries are put, and every other row is kept.
 use Prim.Native.Nat.{_+_, _*_, _≤_, _-_}
 use native.Mathlib.Omega.{arith}
 use mathlib.Core.Path.{_≡_, refl}
 use borrow.Author.Needs.{needs}
 use lib.ListN.{length, length-set}
-use Rattle.system.proofs.Transposition.{Put, Kept, put-entry, kept-entry, column-fits}
-use Rattle.system.proofs.columns.put_row.Statement.{statement}
-use Rattle.system.proofs.columns.put_row.Tie as tie
+use Rattle.matrix.proofs.Transposition.{Put, Kept, put-entry, kept-entry, column-fits}
+use Rattle.matrix.proofs.put_row.Statement.{statement}
+use Rattle.matrix.proofs.put_row.Tie as tie
 
 abbrev Inv-loop : tie.InvT-loop
 Inv-loop columns₀ width i row j₀ columns j = (j ≤ length row) × (length columns ≡ length columns₀) × Put width i row j columns × Kept width i columns₀ columns
