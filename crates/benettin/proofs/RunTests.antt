@@ -14,9 +14,9 @@ use Rattle.floats.specs.Finite.{positive, index, first-not-finite}
 use Rattle.floats.specs.declared.Position.{Position}
 use Rattle.floats.specs.declared.Position.the-variants.{At, Nowhere}
 use Rattle.system.specs.System.{dim}
-use Rattle.system.specs.Tests.{dimension-tests, matrix-tests, time-tests}
 use Rattle.system.specs.declared.System.{System}
-use Rattle.system.proofs.Tests.{dimension-passed, matrix-passed, length-passed, time-passed}
+use Rattle.system_validation.specs.Tests.{dimension-tests, matrix-tests, time-tests}
+use Rattle.system_validation.proofs.Tests.{dimension-passed, matrix-passed, length-passed, time-passed}
 use Rattle.benettin.specs.Run.{OutputLengths, count-tests, output-tests, input-tests, run-tests}
 use Rattle.benettin.specs.Estimate.{Input, limit, setting-tests, is-none, state-tests, problem-within, dynamics}
 use Rattle.benettin.specs.Validation.{Ready}

@@ -12,8 +12,8 @@ use Rattle.floats.specs.Arithmetic.{_⊗_}
 use Rattle.floats.specs.Finite.{first-not-finite}
 use Rattle.splitmix64.specs.Mix.{next-state, mix, unit}
 use Rattle.system.specs.System.{dim}
-use Rattle.system.specs.Tests.{dimension-tests, matrix-tests, length-tests, time-tests, step-size-tests}
 use Rattle.system.specs.declared.System.{System}
+use Rattle.system_validation.specs.Tests.{dimension-tests, matrix-tests, length-tests, time-tests, step-size-tests}
 use Rattle.rk4.specs.Step.{advance}
 use Rattle.gram_schmidt.specs.GramSchmidt.{euclidean}
 use Rattle.benettin.specs.Run.{Dynamics, Generator, Problem, OutputLengths, RunAnswer, as-float, top-k-tests, run}

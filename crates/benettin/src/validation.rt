@@ -49,7 +49,7 @@ pub fn validate_settings(
     ensures { λ r. ⌜ reported r ≡ first-failing (Estimate.setting-tests «top_k» «step_size» steps later total «warm_up») ⌝ }
 {
     let top_k = error::test(0 < top_k, LyapunovError::ZeroTopK);
-    let step_size = system::validation::validate_step_size(step_size);
+    let step_size = system_validation::validate_step_size(step_size);
     let limits = validate_limits(steps, later, total, warm_up);
     let rest = error::first_refusal(step_size, limits);
     error::first_refusal(top_k, rest)
@@ -69,7 +69,7 @@ fn validate_finite(state: &[f64]) -> Outcome
 pub fn validate_state(system: System, state: &[f64]) -> Outcome
     ensures { λ r. ⌜ reported r ≡ first-failing (Estimate.state-tests system (now (state .entry))) ⌝ }
 {
-    let length = system::validation::validate_length(system, state);
+    let length = system_validation::validate_length(system, state);
     let finite = validate_finite(state);
     error::first_refusal(length, finite)
 }
@@ -140,9 +140,9 @@ pub fn validate_input(
         total,
         config.transient_windows,
     );
-    let time = system::validation::validate_time(time);
-    let dimension = system::validation::validate_dimension(system);
-    let matrix = system::validation::validate_matrix(system, matrix);
+    let time = system_validation::validate_time(time);
+    let dimension = system_validation::validate_dimension(system);
+    let matrix = system_validation::validate_matrix(system, matrix);
     let state = validate_state(system, state);
     let count = validate_count(system, config.top_k);
     let rest = error::first_refusal(state, count);

@@ -1,7 +1,7 @@
 // The Lorenz 96 ring: the derivatives of its cells, two cells at a time.
 //
 // `vector_field` and `jacobian_vector_product` equal `ring-field` and `ring-tangent` of specs/Ring.antt: start reading there.
-// Crate system has the ring as one of its systems, with its tests; only that crate calls these two.
+// Crate system has the ring as one of its systems, crate system_validation its tests; only crate system calls these two.
 //
 // A cell needs the one after it and the two before it. The loops carry them along and load each pair of cells once, so that
 // pairs stay whole between memory and registers: a pair that is loaded from two stores has to wait for both.

@@ -1,7 +1,8 @@
 // The matrix of a linear system by columns, and its product with a vector.
 //
 // `product` and `wide_product` equal `times` of specs/Matrix.antt: start reading there. `transpose` makes the columns that they
-// read. Crate system has linear systems, with the test of their matrix; only that crate and rk4 call these three.
+// read. Crate system has linear systems, crate system_validation the test of their matrix; only crates system and rk4 call
+// these three.
 //
 // A product sums all rows at once, a column at a time, at a literal width: the sums run side by side, and each still adds in
 // index order. So the matrix is transposed once a step, into columns of 8 or 16 entries.

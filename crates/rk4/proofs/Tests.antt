@@ -16,7 +16,7 @@ use Rattle.floats.specs.declared.Position.{Position}
 use Rattle.floats.specs.declared.Position.the-variants.{At, Nowhere}
 use Rattle.system.specs.System.{dim}
 use Rattle.system.specs.declared.System.{System}
-use Rattle.system.proofs.Tests.{dimension-passed, matrix-passed, length-passed, time-passed, step-size-passed}
+use Rattle.system_validation.proofs.Tests.{dimension-passed, matrix-passed, length-passed, time-passed, step-size-passed}
 use Rattle.rk4.specs.Tests.{tangent-tests, step-tests, Passed}
 use Rattle.rk4.specs.Step.{Stepped, not-finite, advanced, stepped}
 use Rattle.rk4.specs.Stages.{tested-finite}

@@ -9,8 +9,8 @@ use lib.Ieee.{Float}
 use Rattle.error.specs.Tests.{Test, test}
 use Rattle.floats.specs.Finite.{positive}
 use Rattle.system.specs.System.{dim, matrix-fits, cells-fit}
-use Rattle.system.specs.Tests.{dimension-tests, matrix-tests, length-tests, time-tests, step-size-tests}
 use Rattle.system.specs.declared.System.{System}
+use Rattle.system_validation.specs.Tests.{dimension-tests, matrix-tests, length-tests, time-tests, step-size-tests}
 
 -- 19: at most 16 directions, which fill their slice
 abbrev pub tangent-tests : System → List Float → ℕ → List Test

@@ -1,4 +1,4 @@
-// The tests of a step, a function for each block of specs/Tests.antt.
+// The tests of a step: 19, and all of them in their order (specs/Tests.antt). Crate system_validation has the others.
 ghost use mathlib.Core.Path.{_≡_};
 ghost use Prim.Native.Nat.{_≤_};
 ghost use Rattle.error.specs.Refusal.{reported};
@@ -34,20 +34,20 @@ pub fn validate_step_inputs(
 ) -> Outcome
     ensures { λ r. ⌜ reported r ≡ first-failing (step-tests system (now (matrix .entry)) time (now (state .entry)) (now (tangents .entry)) «tangent_count» «step_size») ⌝ }
 {
-    if let Outcome::Refused(e) = system::validation::validate_dimension(system) {
+    if let Outcome::Refused(e) = system_validation::validate_dimension(system) {
         return Outcome::Refused(e);
     }
-    if let Outcome::Refused(e) = system::validation::validate_matrix(system, matrix) {
+    if let Outcome::Refused(e) = system_validation::validate_matrix(system, matrix) {
         return Outcome::Refused(e);
     }
-    if let Outcome::Refused(e) = system::validation::validate_length(system, state) {
+    if let Outcome::Refused(e) = system_validation::validate_length(system, state) {
         return Outcome::Refused(e);
     }
     if let Outcome::Refused(e) = validate_tangents(system, tangents, tangent_count) {
         return Outcome::Refused(e);
     }
-    if let Outcome::Refused(e) = system::validation::validate_time(time) {
+    if let Outcome::Refused(e) = system_validation::validate_time(time) {
         return Outcome::Refused(e);
     }
-    system::validation::validate_step_size(step_size)
+    system_validation::validate_step_size(step_size)
 }

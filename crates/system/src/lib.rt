@@ -2,13 +2,12 @@
 //
 // Every function equals a definition of specs/System.antt: start reading there. `vector_field` and
 // `jacobian_vector_product` evaluate any system. fixed.rt has the formulas of the systems of fixed dimension, crate matrix the
-// product with the matrix of a linear one, crate lorenz96 the cells of a ring, validation.rt the tests of a system and of what
-// is lent beside it (specs/Tests.antt). specs/Evaluation.antt only says what evaluating a system asks for.
+// product with the matrix of a linear one, crate lorenz96 the cells of a ring, crate system_validation the tests of a system
+// and of what is lent beside it. specs/Evaluation.antt only says what evaluating a system asks for.
 //
 // Another system adds a case to `System` and to `dim`, `field` and `tangent` of specs/System.antt, an arm to each function
 // below, and its formulas, in fixed.rt or in a file of its own.
 pub mod fixed;
-pub mod validation;
 
 ghost use mathlib.Core.Path.{_≡_};
 ghost use mathlib.Core.List.{List};

@@ -7,8 +7,8 @@ use lib.ListN.{drop}
 use Rattle.error.specs.Tests.{first-failing}
 use Rattle.error.specs.declared.Refusal.{Refusal}
 use Rattle.error.proofs.Tests.{accepted, refused, behind}
-use Rattle.system.specs.Tests.{dimension-tests}
-use Rattle.system.proofs.Tests.{dimension-passed}
+use Rattle.system_validation.specs.Tests.{dimension-tests}
+use Rattle.system_validation.proofs.Tests.{dimension-passed}
 use Rattle.rk4.specs.Tests.{step-tests}
 use Rattle.rk4.proofs.validation.validate_step_inputs.Statement.{statement}
 use Rattle.rk4.proofs.validation.validate_step_inputs.Tie as tie

@@ -1,11 +1,11 @@
--- `system::validation::validate_dimension` meets its contract.
+-- `system_validation::validate_dimension` meets its contract.
 use native.Mathlib.Omega.{arith}
 use borrow.Author.Needs.{needs}
 use borrow.Author.Tests.{lt-ltb, le-ltb, le-leb, lt-leb}
 use Rattle.error.proofs.Tests.{skip, stop, tested}
 use Rattle.system.specs.System.{dim}
-use Rattle.system.proofs.validation.validate_dimension.Statement.{statement}
-use Rattle.system.proofs.validation.validate_dimension.Tie as tie
+use Rattle.system_validation.proofs.validate_dimension.Statement.{statement}
+use Rattle.system_validation.proofs.validate_dimension.Tie as tie
 
 returns : tie.Need-returns
 returns c = let S = c .before .before .args .system in stop _ _ (le-ltb 0 (dim S) (omega (arith, c .before .dimension .ensures)))

@@ -11,9 +11,9 @@ use lib.Ieee.Scale.{finite}
 use Rattle.error.specs.Tests.{first-failing}
 use Rattle.floats.specs.Finite.{positive}
 use Rattle.error.proofs.Tests.{passed}
 use Rattle.system.specs.System.{dim, matrix-fits, cells-fit}
-use Rattle.system.specs.Tests.{dimension-tests, matrix-tests, length-tests, time-tests, step-size-tests}
+use Rattle.system_validation.specs.Tests.{dimension-tests, matrix-tests, length-tests, time-tests, step-size-tests}
 use Rattle.system.specs.declared.System.{System}
 
 module _ (S : System) where
   pub dimension-passed : none ≡ first-failing (dimension-tests S) → (0 < dim S) × (dim S ≤ 16) × (cells-fit S ≡ true)

@@ -1,7 +1,0 @@
--- `system::validation::validate_matrix` meets its contract.
-use borrow.Author.Needs.{needs}
-use Rattle.system.proofs.validation.validate_matrix.Statement.{statement}
-use Rattle.system.proofs.validation.validate_matrix.Tie as tie
-
-pub validate-matrix-spec : {M : Type 1} → statement M
-validate-matrix-spec = tie.close (tie.spec (λ c κs. search needs) (λ c κs. search needs) (λ c. cc))

@@ -1,7 +1,0 @@
--- `system::validation::validate_step_size` meets its contract.
-use borrow.Author.Needs.{needs}
-use Rattle.system.proofs.validation.validate_step_size.Statement.{statement}
-use Rattle.system.proofs.validation.validate_step_size.Tie as tie
-
-pub validate-step-size-spec : {M : Type 1} → statement M
-validate-step-size-spec = tie.close (tie.spec (λ c κs. search needs) (λ c κs. search needs) (λ c. cc))

@@ -1,7 +1,0 @@
--- `system::validation::validate_time` meets its contract.
-use borrow.Author.Needs.{needs}
-use Rattle.system.proofs.validation.validate_time.Statement.{statement}
-use Rattle.system.proofs.validation.validate_time.Tie as tie
-
-pub validate-time-spec : {M : Type 1} → statement M
-validate-time-spec = tie.close (tie.spec (λ c κs. search needs) (λ c κs. search needs) (λ c. cc))

@@ -1,0 +1,2 @@
+-- Laws, one subject a file.
+pub mod Tests

@@ -1,0 +1,3 @@
+-- What the contracts cite, the tests in blocks; and examples.
+pub mod Tests
+pub mod Examples
