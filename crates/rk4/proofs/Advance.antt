@@ -8,14 +8,14 @@ use lib.Ieee.{Float}
 use Rattle.floats.specs.Vector.{chunks, concat}
 use Rattle.lorenz96.specs.Around.{Cells}
 use Rattle.matrix.specs.Matrix.{times, Transposed, Held}
+use Rattle.stepper.specs.Stepper.{stage-points, moved, advance-by, rk4}
+use Rattle.stepper.proofs.Moves.{moved-length}
 use Rattle.system.specs.System.{dim, field, tangent}
 use Rattle.system.specs.declared.System.{System}
 use Rattle.system.specs.declared.System.the-variants.{Linear, Lorenz96}
-use Rattle.rk4.specs.Stepper.{stage-points, moved, advance-by, rk4}
 use Rattle.rk4.specs.Step.{advance, advanced}
 use Rattle.rk4.specs.Tests.{Passed}
 use Rattle.rk4.specs.Stages.{Pointed, Advances, along, alike, tested-finite}
-use Rattle.rk4.proofs.Moves.{moved-length}
 
 module _ (S : System) (m : List Float) (h : Float) (x : List Float) where
   pub state-moved : moved (rk4 h) (alike (field S m)) x ≡ advance S m h x .0

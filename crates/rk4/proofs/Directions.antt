@@ -11,8 +11,8 @@ use lib.Ieee.{Float}
 use Rattle.floats.specs.Vector.{part, chunks, concat}
 use Rattle.floats.proofs.Vector.{vector-fits, chunks-length, chunks-sized, map-sized, length-concat}
 use Rattle.floats.proofs.Parts.{lent-length, back-length}
-use Rattle.rk4.specs.Stepper.{Method, moved}
-use Rattle.rk4.proofs.Moves.{moved-length}
+use Rattle.stepper.specs.Stepper.{Method, moved}
+use Rattle.stepper.proofs.Moves.{moved-length}
 
 -- the first n vectors of l
 abbrev all-by : (List Float → List Float) → ℕ → ℕ → List Float → List Float

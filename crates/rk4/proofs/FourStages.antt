@@ -6,12 +6,12 @@ use mathlib.Core.List.{List, [], _∷_, _++_, map, append-nil}
 use lib.ListN.{length, take, drop, length-take, drop-of-length-le}
 use lib.Seq.{take-all}
 use lib.Ieee.{Float}
+use Rattle.stepper.specs.Stepper.{entrywise, stage-points, moved, rk4}
+use Rattle.stepper.specs.Rules.{stage-rule, rule-at}
+use Rattle.stepper.proofs.Entrywise.{entrywise-front, entrywise-base}
+use Rattle.stepper.proofs.Moves.{Computed, moved-front, points-of, computed-points}
 use Rattle.system.specs.Array.{in16}
 use Rattle.system.proofs.Padding.{in16-take}
-use Rattle.rk4.specs.Stepper.{entrywise, stage-points, moved, rk4}
-use Rattle.rk4.specs.Stages.{stage-rule, rule-at}
-use Rattle.rk4.proofs.Entrywise.{entrywise-front, entrywise-base}
-use Rattle.rk4.proofs.Moves.{Computed, moved-front, points-of, computed-points}
 
 -- what `stage_point` leaves: the point t of stage i
 abbrev Point : Float → ℕ → List Float → ℕ → List (List Float) → List Float → Type 0

@@ -1,6 +1,4 @@
 -- Laws, one subject a file.
-pub mod Entrywise
-pub mod Moves
 pub mod FourStages
 pub mod Advance
 pub mod Directions

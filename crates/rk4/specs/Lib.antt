@@ -1,5 +1,4 @@
--- What the contracts cite: the stepper, a step called alone with its tests, and the code's stages.
-pub mod Stepper
+-- What the contracts cite: a step called alone with its tests, and the code's stages; and examples.
 pub mod Tests
 pub mod Step
 pub mod Stages

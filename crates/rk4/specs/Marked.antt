@@ -10,9 +10,9 @@ use Rattle.floats.specs.Arithmetic.{bits, whole, minus, zero⁺, one, six}
 use Rattle.floats.specs.Finite.{first-not-finite}
 use Rattle.floats.specs.Vector.{dot-from, chunks, concat}
 use Rattle.matrix.specs.Matrix.{times}
+use Rattle.stepper.specs.Stepper.{entrywise, derivatives, stage-points, moved, advance-by, rk4}
 use Rattle.system.specs.System.{field, tangent}
 use Rattle.system.specs.declared.System.the-variants.{Lorenz, Linear}
-use Rattle.rk4.specs.Stepper.{entrywise, derivatives, stage-points, moved, advance-by, rk4}
 use Rattle.rk4.specs.Step.{advance, advanced, stepped}
 
 -- Linear(1), matrix 1, h 6, state 1 steps to 115

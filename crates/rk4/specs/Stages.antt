@@ -1,33 +1,15 @@
 -- How the code holds a step; a reader may skip this. Definitions only.
-use Prim.Native.Nat.{ℕ, zero, suc}
+use Prim.Native.Nat.{ℕ}
 use mathlib.Core.Path.{_≡_}
-use mathlib.Core.List.{List, [], _∷_, _++_, map}
+use mathlib.Core.List.{List, [], _∷_, map}
 use lib.ListN.{take}
 use lib.Ieee.{Float}
 use Rattle.floats.specs.Finite.{first-not-finite}
 use Rattle.floats.specs.Vector.{chunks, concat}
+use Rattle.stepper.specs.Stepper.{stage-points, rk4}
 use Rattle.system.specs.System.{dim, field, tangent}
 use Rattle.system.specs.declared.System.{System}
-use Rattle.rk4.specs.Stepper.{Rule, stage-points, rk4}
 use Rattle.rk4.specs.Step.{Stepped, not-finite, advance}
-
--- the first n of four, the last of them first
-unfoldable pub latest {a} : {A : Type a} → ℕ → A → A → A → A → List A
-latest zero k₁ k₂ k₃ k₄ = []
-latest (suc zero) k₁ k₂ k₃ k₄ = k₁ ∷ []
-latest (suc (suc zero)) k₁ k₂ k₃ k₄ = k₂ ∷ k₁ ∷ []
-latest (suc (suc (suc zero))) k₁ k₂ k₃ k₄ = k₃ ∷ k₂ ∷ k₁ ∷ []
-latest (suc (suc (suc (suc n)))) k₁ k₂ k₃ k₄ = k₄ ∷ k₃ ∷ k₂ ∷ k₁ ∷ []
-
--- rule n of a list; behind its end the base stays
-unfoldable pub rule-at : List Rule → ℕ → Rule
-rule-at [] n ks v = v
-rule-at (p ∷ ps) zero ks v = p ks v
-rule-at (p ∷ ps) (suc n) ks v = rule-at ps n ks v
-
--- the point of stage n, from 0; behind the points, as number 4, the update
-abbrev pub stage-rule : Float → ℕ → Rule
-stage-rule h n = rule-at (rk4 h .points ++ (rk4 h .update ∷ [])) n
 
 -- the tangent map of each stage, with the stage points of the state at the front of the arrays xs
 abbrev pub along : System → List Float → List (List Float) → List (List Float → List Float)

@@ -9,9 +9,9 @@ use Rattle.error.specs.declared.Refusal.{Refusal}
 use Rattle.error.specs.declared.Outcome.{Outcome}
 use Rattle.floats.specs.Finite.{first-not-finite}
 use Rattle.floats.specs.Vector.{chunks, concat}
+use Rattle.stepper.specs.Stepper.{advance-by, rk4}
 use Rattle.system.specs.System.{dim, field, tangent}
 use Rattle.system.specs.declared.System.{System}
-use Rattle.rk4.specs.Stepper.{advance-by, rk4}
 use Rattle.rk4.specs.Tests.{step-tests}
 
 -- the answer, and what the two slices hold

@@ -6,14 +6,13 @@ ghost use mathlib.Core.List.{List, [], _∷_, map};
 ghost use lib.ListN.{length};
 ghost use lib.Ieee.{Float};
 ghost use Rattle.floats.specs.Vector.{chunks, concat};
+ghost use Rattle.stepper.specs.Stepper.{rk4, moved};
 ghost use Rattle.system.specs.System.{dim};
 ghost use Rattle.system.specs.Evaluation.{Fixed};
-ghost use Rattle.rk4.specs.Stepper.{rk4, moved};
 ghost use Rattle.rk4.specs.Step.{advance};
 ghost use Rattle.rk4.specs.Stages.{Pointed, Advances, along};
 use crate::arrays;
-use crate::method;
-use crate::method::Points;
+use stepper::Points;
 use system::System;
 use system::fixed;
 
@@ -25,13 +24,13 @@ fn advance_state(system: System, state: &mut [f64], h: f64) -> Points
 {
     let x1 = arrays::zero_padded(state, 3);
     let k1 = fixed::fixed_field(system, &x1);
-    let x2 = method::stage_point(1, x1, k1, k1, k1, h, 3);
+    let x2 = stepper::stage_point(1, x1, k1, k1, k1, h, 3);
     let k2 = fixed::fixed_field(system, &x2);
-    let x3 = method::stage_point(2, x1, k1, k2, k2, h, 3);
+    let x3 = stepper::stage_point(2, x1, k1, k2, k2, h, 3);
     let k3 = fixed::fixed_field(system, &x3);
-    let x4 = method::stage_point(3, x1, k1, k2, k3, h, 3);
+    let x4 = stepper::stage_point(3, x1, k1, k2, k3, h, 3);
     let k4 = fixed::fixed_field(system, &x4);
-    let next = method::update(x1, k1, k2, k3, k4, h, 3);
+    let next = stepper::update(x1, k1, k2, k3, k4, h, 3);
     arrays::copy_front(state, next, 3);
     Points { x1, x2, x3, x4 }
 }
@@ -52,13 +51,13 @@ fn advance_direction(
 {
     let t1 = arrays::zero_padded(t, 3);
     let k1 = fixed::fixed_tangent(system, x1, &t1);
-    let t2 = method::stage_point(1, t1, k1, k1, k1, h, 3);
+    let t2 = stepper::stage_point(1, t1, k1, k1, k1, h, 3);
     let k2 = fixed::fixed_tangent(system, x2, &t2);
-    let t3 = method::stage_point(2, t1, k1, k2, k2, h, 3);
+    let t3 = stepper::stage_point(2, t1, k1, k2, k2, h, 3);
     let k3 = fixed::fixed_tangent(system, x3, &t3);
-    let t4 = method::stage_point(3, t1, k1, k2, k3, h, 3);
+    let t4 = stepper::stage_point(3, t1, k1, k2, k3, h, 3);
     let k4 = fixed::fixed_tangent(system, x4, &t4);
-    let next = method::update(t1, k1, k2, k3, k4, h, 3);
+    let next = stepper::update(t1, k1, k2, k3, k4, h, 3);
     arrays::copy_front(t, next, 3);
 }
 

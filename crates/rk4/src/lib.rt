@@ -1,17 +1,16 @@
 // The classical Runge-Kutta step of a state with its directions (source: Rk4 of system.rs).
 //
-// `step` equals a definition of specs/ for every input. Read specs/Stepper.antt first: explicit steppers, place by place, and
-// the classical one. Then specs/Tests.antt and specs/Step.antt: the tests of a step that is called alone, which validation.rt
-// makes, and what it leaves in the two slices. specs/Stages.antt only serves the private functions. proofs/Advance.antt and
-// proofs/Tests.antt have what a caller needs: a step keeps every length, and when no test fails.
+// `step` equals a definition of specs/ for every input. Read specs/Stepper.antt of crate stepper first: explicit steppers,
+// place by place, and the classical one. Then specs/Tests.antt and specs/Step.antt: the tests of a step that is called alone,
+// which validation.rt makes, and what it leaves in the two slices. specs/Stages.antt only serves the private functions.
+// proofs/Advance.antt and proofs/Tests.antt have what a caller needs: a step keeps every length, and when no test fails.
 //
-// method.rt has the formulas of the method and the loop over them. A vector is moved by one of three bodies, by where its
+// Crate stepper has the formulas of the method and the loop over them. A vector is moved by one of three bodies, by where its
 // numbers live: fixed.rt (width 3, in registers), narrow.rt (8, in registers) and wide.rt (16, in memory; any system). A
-// method adds its formulas to method.rt, and a system its own to crate system: no body is for one system or one method
+// method adds its formulas to crate stepper, and a system its own to crate system: no body is for one system or one method
 // (docs/DEFINITIONS.md has what each would add).
 mod arrays;
 mod fixed;
-mod method;
 mod narrow;
 pub mod passed;
 pub mod validation;

@@ -7,10 +7,9 @@ ghost use lib.ListN.{length};
 ghost use lib.Ieee.{Float};
 ghost use Rattle.floats.specs.Vector.{chunks, concat};
 ghost use Rattle.matrix.specs.Matrix.{times, Transposed};
-ghost use Rattle.rk4.specs.Stepper.{rk4, moved};
+ghost use Rattle.stepper.specs.Stepper.{rk4, moved};
 ghost use Rattle.rk4.specs.Stages.{Advances, alike};
 use crate::arrays;
-use crate::method;
 use system::System;
 
 // The state or a direction.
@@ -21,13 +20,13 @@ fn advance_vector(columns: &[f64], d: usize, v: &mut [f64], h: f64)
 {
     let x1 = arrays::zero_padded(v, 8);
     let k1 = matrix::product(columns, d, &x1, 8);
-    let x2 = method::stage_point(1, x1, k1, k1, k1, h, 8);
+    let x2 = stepper::stage_point(1, x1, k1, k1, k1, h, 8);
     let k2 = matrix::product(columns, d, &x2, 8);
-    let x3 = method::stage_point(2, x1, k1, k2, k2, h, 8);
+    let x3 = stepper::stage_point(2, x1, k1, k2, k2, h, 8);
     let k3 = matrix::product(columns, d, &x3, 8);
-    let x4 = method::stage_point(3, x1, k1, k2, k3, h, 8);
+    let x4 = stepper::stage_point(3, x1, k1, k2, k3, h, 8);
     let k4 = matrix::product(columns, d, &x4, 8);
-    let next = method::update(x1, k1, k2, k3, k4, h, 8);
+    let next = stepper::update(x1, k1, k2, k3, k4, h, 8);
     arrays::copy_front(v, next, 8);
 }
 

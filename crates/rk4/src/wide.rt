@@ -9,12 +9,11 @@ ghost use mathlib.Core.List.{List, [], _∷_, map};
 ghost use lib.ListN.{length};
 ghost use lib.Ieee.{Float};
 ghost use Rattle.floats.specs.Vector.{chunks, concat};
+ghost use Rattle.stepper.specs.Stepper.{rk4, moved};
 ghost use Rattle.system.specs.System.{dim};
 ghost use Rattle.system.specs.Evaluation.{Columns};
-ghost use Rattle.rk4.specs.Stepper.{rk4, moved};
 ghost use Rattle.rk4.specs.Stages.{Advances, along};
 use crate::arrays;
-use crate::method;
 use system::System;
 
 // One direction, with the stage points of the state.
@@ -37,16 +36,16 @@ fn advance_direction(
     let mut k = [0.0; 16];
     system::jacobian_vector_product(system, columns, x1, &t1, &mut k);
     let k1 = k;
-    let t2 = method::stage_point(1, t1, k1, k1, k1, h, 16);
+    let t2 = stepper::stage_point(1, t1, k1, k1, k1, h, 16);
     system::jacobian_vector_product(system, columns, x2, &t2, &mut k);
     let k2 = k;
-    let t3 = method::stage_point(2, t1, k1, k2, k2, h, 16);
+    let t3 = stepper::stage_point(2, t1, k1, k2, k2, h, 16);
     system::jacobian_vector_product(system, columns, x3, &t3, &mut k);
     let k3 = k;
-    let t4 = method::stage_point(3, t1, k1, k2, k3, h, 16);
+    let t4 = stepper::stage_point(3, t1, k1, k2, k3, h, 16);
     system::jacobian_vector_product(system, columns, x4, &t4, &mut k);
     let k4 = k;
-    let next = method::update(t1, k1, k2, k3, k4, h, 16);
+    let next = stepper::update(t1, k1, k2, k3, k4, h, 16);
     arrays::store(t, next);
 }
 
@@ -94,16 +93,16 @@ pub fn advance_wide(
     let mut k = [0.0; 16];
     system::vector_field(system, columns, &x1, &mut k);
     let k1 = k;
-    let x2 = method::stage_point(1, x1, k1, k1, k1, h, 16);
+    let x2 = stepper::stage_point(1, x1, k1, k1, k1, h, 16);
     system::vector_field(system, columns, &x2, &mut k);
     let k2 = k;
-    let x3 = method::stage_point(2, x1, k1, k2, k2, h, 16);
+    let x3 = stepper::stage_point(2, x1, k1, k2, k2, h, 16);
     system::vector_field(system, columns, &x3, &mut k);
     let k3 = k;
-    let x4 = method::stage_point(3, x1, k1, k2, k3, h, 16);
+    let x4 = stepper::stage_point(3, x1, k1, k2, k3, h, 16);
     system::vector_field(system, columns, &x4, &mut k);
     let k4 = k;
-    let next = method::update(x1, k1, k2, k3, k4, h, 16);
+    let next = stepper::update(x1, k1, k2, k3, k4, h, 16);
     arrays::store(state, next);
     advance_directions(system, columns, tangents, d, count, &x1, &x2, &x3, &x4, h);
 }

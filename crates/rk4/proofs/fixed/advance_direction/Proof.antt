@@ -2,10 +2,10 @@
 use native.Mathlib.Omega.{arith}
 use borrow.Author.Needs.{needs}
 use lib.ListN.{take}
+use Rattle.stepper.specs.Rules.{latest}
 use Rattle.system.specs.System.{dim, tangent}
 use Rattle.system.proofs.Cases.{fixed-dimension}
 use Rattle.system.proofs.Front.{tangent-front}
-use Rattle.rk4.specs.Stages.{latest}
 use Rattle.rk4.proofs.FourStages.{Staged, four-stages, padded-front, copied-front}
 use Rattle.rk4.proofs.fixed.advance_direction.Statement.{statement}
 use Rattle.rk4.proofs.fixed.advance_direction.Tie as tie

@@ -6,7 +6,7 @@ use mathlib.Core.List.{List, [], _∷_}
 use borrow.Author.Needs.{needs}
 use lib.ListN.{length}
 use lib.Ieee.{Float}
-use Rattle.rk4.specs.Stepper.{rk4}
+use Rattle.stepper.specs.Stepper.{rk4}
 use Rattle.rk4.specs.Stages.{along}
 use Rattle.rk4.proofs.Directions.{Moving, moving-none, room, lent, moving-next, moving-all}
 use Rattle.rk4.proofs.fixed.advance_directions.Statement.{statement}

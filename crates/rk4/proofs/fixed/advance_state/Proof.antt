@@ -2,10 +2,10 @@
 use native.Mathlib.Omega.{arith}
 use mathlib.Core.Path.{_∙_}
 use borrow.Author.Needs.{needs}
+use Rattle.stepper.specs.Rules.{latest}
 use Rattle.system.specs.System.{dim, field}
 use Rattle.system.proofs.Cases.{fixed-dimension}
 use Rattle.system.proofs.Front.{field-front}
-use Rattle.rk4.specs.Stages.{latest}
 use Rattle.rk4.proofs.Advance.{state-moved}
 use Rattle.rk4.proofs.FourStages.{Staged, four-stages, four-points, padded-front, copied-front}
 use Rattle.rk4.proofs.fixed.advance_state.Statement.{statement}

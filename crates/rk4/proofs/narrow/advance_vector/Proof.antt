@@ -3,7 +3,7 @@ use native.Mathlib.Omega.{arith}
 use borrow.Author.Needs.{needs}
 use Rattle.floats.specs.Vector.{chunks}
 use Rattle.matrix.specs.Matrix.{times}
-use Rattle.rk4.specs.Stages.{latest}
+use Rattle.stepper.specs.Rules.{latest}
 use Rattle.rk4.proofs.FourStages.{Staged, four-stages, padded-front, copied-front}
 use Rattle.rk4.proofs.narrow.advance_vector.Statement.{statement}
 use Rattle.rk4.proofs.narrow.advance_vector.Tie as tie

@@ -8,7 +8,7 @@ use lib.ListN.{length}
 use lib.Ieee.{Float}
 use Rattle.floats.specs.Vector.{chunks}
 use Rattle.matrix.specs.Matrix.{times, Transposed}
-use Rattle.rk4.specs.Stepper.{rk4}
+use Rattle.stepper.specs.Stepper.{rk4}
 use Rattle.rk4.specs.Stages.{alike}
 use Rattle.rk4.proofs.Directions.{Moving, moving-none, room, lent, moving-next, moving-all}
 use Rattle.rk4.proofs.narrow.advance_vectors.Statement.{statement}

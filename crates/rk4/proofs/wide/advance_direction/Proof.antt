@@ -2,8 +2,8 @@
 use native.Mathlib.Omega.{arith}
 use borrow.Author.Needs.{needs}
 use lib.ListN.{take}
+use Rattle.stepper.specs.Rules.{latest}
 use Rattle.system.specs.System.{dim, tangent}
-use Rattle.rk4.specs.Stages.{latest}
 use Rattle.rk4.proofs.FourStages.{Staged, four-stages, loaded-front, stored-front}
 use Rattle.rk4.proofs.wide.advance_direction.Statement.{statement}
 use Rattle.rk4.proofs.wide.advance_direction.Tie as tie

@@ -3,8 +3,8 @@ use native.Mathlib.Omega.{arith}
 use mathlib.Core.List.{[], _∷_}
 use mathlib.Core.Path.{_∙_}
 use borrow.Author.Needs.{needs}
+use Rattle.stepper.specs.Rules.{latest}
 use Rattle.system.specs.System.{dim, field}
-use Rattle.rk4.specs.Stages.{latest}
 use Rattle.rk4.proofs.Advance.{advances, state-moved}
 use Rattle.rk4.proofs.FourStages.{Staged, four-stages, four-points, loaded-front, stored-front}
 use Rattle.rk4.proofs.wide.advance_wide.Statement.{statement}

@@ -1,12 +1,12 @@
--- `rk4::method::entry` meets its contract: each stage is a case of the definition.
+-- `stepper::entry` meets its contract: each stage is a case of the definition.
 use Prim.Native.Nat.{ℕ, zero, suc}
 use mathlib.Core.Path.{_≡_, refl, sym}
 use mathlib.Core.List.{List}
 use lib.Ieee.{Float, ofBits}
-use Rattle.rk4.specs.Stepper.{rk4}
-use Rattle.rk4.specs.Stages.{latest, rule-at, stage-rule}
-use Rattle.rk4.proofs.method.entry.Statement.{statement}
-use Rattle.rk4.proofs.method.entry.Tie as tie
+use Rattle.stepper.specs.Stepper.{rk4}
+use Rattle.stepper.specs.Rules.{latest, rule-at, stage-rule}
+use Rattle.stepper.proofs.entry.Statement.{statement}
+use Rattle.stepper.proofs.entry.Tie as tie
 
 -- stage 0, and those that there are not, stay at the base
 other-stage : (h : Float) (n : ℕ) (ks : List Float) (v : Float) → (n ≡ 1 → ⊥) → (n ≡ 2 → ⊥) → (n ≡ 3 → ⊥) → (n ≡ 4 → ⊥) → stage-rule h n ks v ≡ v

@@ -8,8 +8,8 @@ use lib.ListN.{length, take, drop, set, length-take}
 use lib.Seq.{take-take, take-at, length-take-le, getD-take, ext-getD}
 use lib.Ieee.{Float, nan}
 use Rattle.floats.proofs.Fill.{fill-step}
-use Rattle.rk4.specs.Stepper.{Rule, at, entrywise, base}
-use Rattle.rk4.specs.Stages.{latest}
+use Rattle.stepper.specs.Stepper.{Rule, at, entrywise, base}
+use Rattle.stepper.specs.Rules.{latest}
 
 -- a map after another, over the derivatives
 mapped : {C : Type 0} (f : List Float → C) (g : List Float → List Float) (h : List Float → C) → ((k : List Float) → f (g k) ≡ h k)

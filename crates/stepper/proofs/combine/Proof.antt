@@ -1,14 +1,14 @@
--- `rk4::method::combine` meets its contract. The loop's invariant: the first i places are written.
+-- `stepper::combine` meets its contract. The loop's invariant: the first i places are written.
 use Prim.Native.Nat.{_≤_, _-_}
 use native.Mathlib.Omega.{arith}
 use mathlib.Core.Path.{_≡_, refl}
 use borrow.Author.Needs.{needs}
 use lib.ListN.{length, length-set}
-use Rattle.rk4.specs.Stepper.{at}
-use Rattle.rk4.specs.Stages.{latest, stage-rule}
-use Rattle.rk4.proofs.Entrywise.{map-latest, Written, written-next, written-front}
-use Rattle.rk4.proofs.method.combine.Statement.{statement}
-use Rattle.rk4.proofs.method.combine.Tie as tie
+use Rattle.stepper.specs.Stepper.{at}
+use Rattle.stepper.specs.Rules.{latest, stage-rule}
+use Rattle.stepper.proofs.Entrywise.{map-latest, Written, written-next, written-front}
+use Rattle.stepper.proofs.combine.Statement.{statement}
+use Rattle.stepper.proofs.combine.Tie as tie
 
 abbrev Inv-loop : tie.InvT-loop
 Inv-loop stage h width v k1 k2 k3 k4 out₀ i₀ out i = (i ≤ width) × (length out ≡ 16) × Written (stage-rule h stage) (latest stage k1 k2 k3 k4) v out₀ i out

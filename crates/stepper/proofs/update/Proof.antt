@@ -1,9 +1,9 @@
--- `rk4::method::update` meets its contract: the update is rule 4.
+-- `stepper::update` meets its contract: the update is rule 4.
 use borrow.Author.Needs.{needs}
-use Rattle.rk4.specs.Stepper.{rk4}
-use Rattle.rk4.specs.Stages.{latest, rule-at}
-use Rattle.rk4.proofs.method.update.Statement.{statement}
-use Rattle.rk4.proofs.method.update.Tie as tie
+use Rattle.stepper.specs.Stepper.{rk4}
+use Rattle.stepper.specs.Rules.{latest, rule-at}
+use Rattle.stepper.proofs.update.Statement.{statement}
+use Rattle.stepper.proofs.update.Tie as tie
 
 combine-requires : tie.Need-combine-requires
 combine-requires c κs = search needs

@@ -1,13 +1,17 @@
-// The classical method, one place of a vector at a time, and the loop that applies it to a vector.
+// The formulas of the classical method, one place of a vector at a time, and the loop that applies them to a vector.
+//
+// `stage_point` and `update` equal a rule of `rk4` at each of the first `width` places. Start reading at specs/Stepper.antt:
+// explicit steppers over any number of stages, and the classical one. specs/Rules.antt only numbers its rules, as the code
+// does. Only crate rk4 calls these two: it has the bodies that move a state and its directions.
 //
 // Each stage point and the update stand once, in `entry`, as in specs/Stepper.antt: another method adds its formulas there,
-// and nothing else here knows them.
+// and nothing else here knows them. proofs/Entrywise.antt and proofs/Moves.antt hold for any method.
 ghost use mathlib.Core.Path.{_≡_};
 ghost use Prim.Native.Nat.{_≤_};
 ghost use mathlib.Core.List.{[], _∷_, map};
 ghost use lib.ListN.{take};
-ghost use Rattle.rk4.specs.Stepper.{entrywise, rk4};
-ghost use Rattle.rk4.specs.Stages.{latest, stage-rule};
+ghost use Rattle.stepper.specs.Stepper.{entrywise, rk4};
+ghost use Rattle.stepper.specs.Rules.{latest, stage-rule};
 
 // The stage points of a state, each at the front of an array. They are computed once and lent to every direction.
 pub struct Points {

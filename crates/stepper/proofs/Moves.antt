@@ -4,8 +4,8 @@ use mathlib.Core.Path.{_≡_, refl, ap, ap₂, _∙_}
 use mathlib.Core.List.{List, [], _∷_, map}
 use lib.ListN.{length, take}
 use lib.Ieee.{Float}
-use Rattle.rk4.specs.Stepper.{Rule, Method, entrywise, derivatives, stage-points, moved}
-use Rattle.rk4.proofs.Entrywise.{entrywise-length, entrywise-front}
+use Rattle.stepper.specs.Stepper.{Rule, Method, entrywise, derivatives, stage-points, moved}
+use Rattle.stepper.proofs.Entrywise.{entrywise-length, entrywise-front}
 
 -- a step keeps every length
 pub moved-length : (M : Method) (fs : List (List Float → List Float)) (v : List Float) → length (moved M fs v) ≡ length v

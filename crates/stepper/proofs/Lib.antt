@@ -1,0 +1,3 @@
+-- Laws, one subject a file.
+pub mod Entrywise
+pub mod Moves
