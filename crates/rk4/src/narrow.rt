@@ -45,7 +45,25 @@ fn advance_vectors(columns: &[f64], d: usize, vectors: &mut [f64], count: usize,
     }
 }
 
-// The state and every direction. The matrix is transposed first.
+// The state and every direction. The matrix is transposed first, into `columns`.
+fn advance_by_columns(
+    matrix: &[f64],
+    d: usize,
+    columns: &mut [f64],
+    state: &mut [f64],
+    tangents: &mut [f64],
+    count: usize,
+    h: f64,
+)
+    requires { ⌜ (d ≤ 8) × (8 * d ≤ length (now columns)) × (length (now matrix) ≡ d * d) × (length (now state) ≡ d) × (length (now tangents) ≡ count * d) ⌝ }
+    ensures { λ _. ⌜ Advances (System.Linear d) (now (matrix .entry)) h (now (state .entry)) (now (tangents .entry)) count (now (state .exit)) (now (tangents .exit)) ⌝ }
+{
+    matrix::transpose(matrix, d, 8, columns);
+    advance_vector(columns, d, state, h);
+    advance_vectors(columns, d, tangents, count, h);
+}
+
+// The same with room for the columns. Up to 4 columns have half the room: what is not used has to be cleared too.
 pub fn advance_narrow(
     matrix: &[f64],
     d: usize,
@@ -57,8 +75,11 @@ pub fn advance_narrow(
     requires { ⌜ (d ≤ 8) × (length (now matrix) ≡ d * d) × (length (now state) ≡ d) × (length (now tangents) ≡ count * d) ⌝ }
     ensures { λ _. ⌜ Advances (System.Linear d) (now (matrix .entry)) h (now (state .entry)) (now (tangents .entry)) count (now (state .exit)) (now (tangents .exit)) ⌝ }
 {
-    let mut columns = [0.0; 64];
-    matrix::transpose(matrix, d, 8, &mut columns);
-    advance_vector(&columns, d, state, h);
-    advance_vectors(&columns, d, tangents, count, h);
+    if d <= 4 {
+        let mut columns = [0.0; 32];
+        advance_by_columns(matrix, d, &mut columns, state, tangents, count, h);
+    } else {
+        let mut columns = [0.0; 64];
+        advance_by_columns(matrix, d, &mut columns, state, tangents, count, h);
+    }
 }
