@@ -78,11 +78,13 @@ module _ (d v : ℕ) (x : List Float) (sized : length x ≡ d) (copied : d ≤ v
       let q : length x ≤ v = omega arith in
       e ∙ rw (sized, take-all v (take d n) l, drop-of-length-le x q) (append-nil (take d n))
 
--- ---- an array in memory, into which x is loaded and from which y gets its length back
+-- ---- an array in memory, into which x is loaded and from which y gets its length back; all 16 places are computed
 
-module _ (d : ℕ) (x : List Float) (sized : length x ≡ d) where
-  pub loaded-front : (b : List Float) → take (length x) b ≡ x → take d b ≡ x
-  loaded-front b e = rw sized at e
+pub in-memory : {d : ℕ} {h : Float} {x b : List Float} {f₁ f₂ f₃ f₄ : List Float → List Float} {t₂ t₃ t₄ k₁ k₂ k₃ k₄ : List Float} → length x ≡ d → d ≤ 16
+    → take (length x) b ≡ x → take d k₁ ≡ f₁ (take d b) → Point h 16 b 1 (k₁ ∷ []) t₂ → take d k₂ ≡ f₂ (take d t₂) → Point h 16 b 2 (k₂ ∷ k₁ ∷ []) t₃
+    → take d k₃ ≡ f₃ (take d t₃) → Point h 16 b 3 (k₃ ∷ k₂ ∷ k₁ ∷ []) t₄ → take d k₄ ≡ f₄ (take d t₄) → Staged d 16 h x b f₁ f₂ f₃ f₄ t₂ t₃ t₄ k₁ k₂ k₃ k₄
+in-memory e l a d₁ p₂ d₂ p₃ d₃ p₄ d₄ =
+    record { within = l; front = rw e at a; derivative₁ = d₁; point₂ = p₂; derivative₂ = d₂; point₃ = p₃; derivative₃ = d₃; point₄ = p₄; derivative₄ = d₄ }
 
-  pub stored-front : (n y : List Float) → y ≡ take (length x) n → y ≡ take d n
-  stored-front n y e = rw sized at e
+pub stored-front : (d : ℕ) (x : List Float) → length x ≡ d → (n y : List Float) → y ≡ take (length x) n → y ≡ take d n
+stored-front d x e n y f = rw e at f

@@ -4,7 +4,7 @@ use borrow.Author.Needs.{needs}
 use lib.ListN.{take}
 use Rattle.stepper.specs.Rules.{latest}
 use Rattle.system.specs.System.{dim, tangent}
-use Rattle.rk4.proofs.FourStages.{Staged, four-stages, loaded-front, stored-front}
+use Rattle.rk4.proofs.FourStages.{Staged, four-stages, in-memory, stored-front}
 use Rattle.rk4.proofs.wide.advance_direction.Statement.{statement}
 use Rattle.rk4.proofs.wide.advance_direction.Tie as tie
 
@@ -14,6 +14,17 @@ loaded c = c .before .before .before .before
 
 abbrev start : tie.After-load → tie.Start
 start c = c .before .before .before .before .before
+
+-- two of the stage points, seen from the update
+abbrev stage₃ : tie.After-update → tie.After-stage-point2
+stage₃ c = c .before .before .before .before .before .before .before .before
+
+abbrev stage₂ : tie.After-update → tie.After-stage-point
+stage₂ c = stage₃ c .before .before .before .before
+
+-- the direction has at most 16 entries
+store-requires : tie.Need-store-requires
+store-requires c κs = let s = start (loaded (stage₂ (c .before))) in omega (arith, s .pre .0, s .pre .1)
 
 returns : tie.Need-returns
 unfolding latest
@@ -31,17 +42,11 @@ returns c m e =
     let d = dim (ar .system) in
     let g = tangent (ar .system) m in
     let stages : Staged d 16 (ar .h) (ar .t .now) _ (g (take d (ar .x1 .now))) (g (take d (ar .x2 .now))) (g (take d (ar .x3 .now))) (g (take d (ar .x4 .now))) _ _ _ _ _ _ _ =
-    record {
-      within = s .pre .1;
-      front = loaded-front d (ar .t .now) (s .pre .0) _ (loaded t₂ .load .ensures .1);
-      derivative₁ = k₁ .jacobian-vector-product .ensures .1 m e;
-      point₂ = t₂ .stage-point .ensures;
-      derivative₂ = k₂ .jacobian-vector-product2 .ensures .1 m e;
-      point₃ = t₃ .stage-point2 .ensures;
-      derivative₃ = k₃ .jacobian-vector-product3 .ensures .1 m e;
-      point₄ = t₄ .stage-point3 .ensures;
-      derivative₄ = k₄ .jacobian-vector-product4 .ensures .1 m e;
-    } in
+    in-memory (s .pre .0) (s .pre .1) (loaded t₂ .load .ensures .1)
+    (k₁ .jacobian-vector-product .ensures .1 m e) (t₂ .stage-point .ensures)
+    (k₂ .jacobian-vector-product2 .ensures .1 m e) (t₃ .stage-point2 .ensures)
+    (k₃ .jacobian-vector-product3 .ensures .1 m e) (t₄ .stage-point3 .ensures)
+    (k₄ .jacobian-vector-product4 .ensures .1 m e) in
     four-stages stages _ _ (u .update .ensures) (stored-front d (ar .t .now) (s .pre .0) _ _ (c .before .before .store .ensures))
 
 pub advance-direction-spec : {M : Type 1} → statement M
@@ -57,6 +62,6 @@ advance-direction-spec =
     (λ c κs. omega arith)
     (λ c κs. search needs)
     (λ c κs. omega arith)
-    (λ c κs. let t₂ = c .before .before .before .before .before .before .before .before .before .before .before .before .before in let s = start (loaded t₂) in omega (arith, s .pre .0, s .pre .1))
+    store-requires
     (λ c. search needs)
     returns)

@@ -6,7 +6,7 @@ use borrow.Author.Needs.{needs}
 use Rattle.stepper.specs.Rules.{latest}
 use Rattle.system.specs.System.{dim, field}
 use Rattle.rk4.proofs.Advance.{advances, state-moved}
-use Rattle.rk4.proofs.FourStages.{Staged, four-stages, four-points, loaded-front, stored-front}
+use Rattle.rk4.proofs.FourStages.{Staged, four-stages, four-points, in-memory, stored-front}
 use Rattle.rk4.proofs.wide.advance_wide.Statement.{statement}
 use Rattle.rk4.proofs.wide.advance_wide.Tie as tie
 
@@ -17,9 +17,12 @@ loaded c = c .before .before .before .before
 abbrev start : tie.After-load → tie.Start
 start c = c .before .before .before .before .before .before
 
--- the first stage point that is computed, seen from the update
+-- two of the stage points, seen from the update
+abbrev stage₃ : tie.After-update → tie.After-stage-point2
+stage₃ c = c .before .before .before .before .before .before .before .before
+
 abbrev stage₂ : tie.After-update → tie.After-stage-point
-stage₂ c = c .before .before .before .before .before .before .before .before .before .before .before .before
+stage₂ c = stage₃ c .before .before .before .before
 
 -- where the state has its new value
 abbrev stored : tie.After-x42 → tie.After-store
@@ -49,17 +52,11 @@ returns c m e =
     let d = dim (ar .system) in
     let f = field (ar .system) m in
     let stages : Staged d 16 (ar .h) (ar .state .now) _ f f f f _ _ _ _ _ _ _ =
-    record {
-      within = s .pre .1;
-      front = loaded-front d (ar .state .now) (s .pre .0) _ (loaded x₂ .load .ensures .1);
-      derivative₁ = k₁ .vector-field .ensures .1 m e;
-      point₂ = x₂ .stage-point .ensures;
-      derivative₂ = k₂ .vector-field2 .ensures .1 m e;
-      point₃ = x₃ .stage-point2 .ensures;
-      derivative₃ = k₃ .vector-field3 .ensures .1 m e;
-      point₄ = x₄ .stage-point3 .ensures;
-      derivative₄ = k₄ .vector-field4 .ensures .1 m e;
-    } in
+    in-memory (s .pre .0) (s .pre .1) (loaded x₂ .load .ensures .1)
+    (k₁ .vector-field .ensures .1 m e) (x₂ .stage-point .ensures)
+    (k₂ .vector-field2 .ensures .1 m e) (x₃ .stage-point2 .ensures)
+    (k₃ .vector-field3 .ensures .1 m e) (x₄ .stage-point3 .ensures)
+    (k₄ .vector-field4 .ensures .1 m e) in
     let next = four-stages stages _ _ (u .update .ensures) (stored-front d (ar .state .now) (s .pre .0) _ _ (n .store .ensures)) ∙ state-moved (ar .system) m (ar .h) (ar .state .now) in
     let points = loaded x₂ .load .last .0 ∷ x₂ .stage-point .result ∷ x₃ .stage-point2 .result ∷ x₄ .stage-point3 .result ∷ [] in
     advances _ m _ _ _ _ _ points _ _ (s .pre .0) next (four-points stages) (v .advance-directions .ensures m e)
