@@ -41,6 +41,11 @@ fn advance_values(
     ensures { λ _. ⌜ tested-finite (now (state .exit)) (now (tangents .exit)) ≡ advanced system (now (matrix .entry)) (now (state .entry)) (now (tangents .entry)) count h ⌝ }
 {
     match system {
+        System::Lorenz96 { cells, forcing } => {
+            let ring = System::Lorenz96 { cells, forcing };
+            let none = [0.0; 0];
+            wide::advance_wide(ring, &none, state, tangents, count, h);
+        }
         System::Linear(d) => {
             if d <= 8 {
                 narrow::advance_narrow(matrix, d, state, tangents, count, h);
@@ -50,11 +55,6 @@ fn advance_values(
                 let linear = System::Linear(d);
                 wide::advance_wide(linear, &columns, state, tangents, count, h);
             }
-        }
-        System::Lorenz96 { cells, forcing } => {
-            let ring = System::Lorenz96 { cells, forcing };
-            let none = [0.0; 0];
-            wide::advance_wide(ring, &none, state, tangents, count, h);
         }
         _ => fixed::advance_fixed(system, state, tangents, count, h),
     }
