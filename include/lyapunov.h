@@ -39,9 +39,9 @@
  * WHAT A CALL ANSWERS
  *
  * A function that can refuse returns the number of the refusal, and 0 where it did what it was
- * asked to do. The refusals are listed below. A refusal may have a place: an index, a direction or
- * an output. It is written to *place, and to counts[0] by a run. It is written by every call that
- * takes it: 0 where the refusal has no place, and 0 where nothing is refused.
+ * asked to do. The refusals are listed below. A refusal may have a place: an index, a direction, a
+ * count or an output. It is written to *place, and to counts[0] by a run. It is written by every
+ * call that takes it: 0 where the refusal has no place, and 0 where nothing is refused.
  *
  * Any number, infinity or NaN may be handed in: no value leads to anything but an answer or a
  * refusal, and every call ends. A float that is computed or left in a slice equals the one that
@@ -76,8 +76,8 @@
  *    2  step_size is not finite, or not above 0
  *    3  steps_per_window is 0
  *    4  windows is 0
- *    5  a count is above LYAPUNOV_MAX_COUNT; place: one that is (0 steps_per_window, 1 windows,
- *       2 transient_windows)
+ *    5  a count is above LYAPUNOV_MAX_COUNT; place: the first that is, in the order
+ *       0 steps_per_window, 1 windows, 2 transient_windows
  *    6  the (start) time is not finite
  *   12  top_k is above the dimension
  *   15  the duration of a window, step_size * steps_per_window, is not finite

@@ -204,6 +204,10 @@ static void validation(const struct trial *t)
     validated(t, 2.5, t->state, d, &settings, 12, 0);
     settings.transient_windows = LYAPUNOV_MAX_COUNT + UINT64_C(1);
     validated(t, 2.5, t->state, d, &settings, 5, 2);
+    settings.required.windows = LYAPUNOV_MAX_COUNT + UINT64_C(1);
+    validated(t, 2.5, t->state, d, &settings, 5, 1);
+    settings.required.steps_per_window = LYAPUNOV_MAX_COUNT + UINT64_C(1);
+    validated(t, 2.5, t->state, d, &settings, 5, 0);
     settings.required.windows = 0;
     validated(t, 2.5, t->state, d, &settings, 4, 0);
     settings.required.steps_per_window = 0;
@@ -343,6 +347,8 @@ static void refused_settings(void)
     refused(needed, 4, 0);
     needed.windows = LYAPUNOV_MAX_COUNT + UINT64_C(1);
     refused(needed, 5, 1);
+    needed.steps_per_window = LYAPUNOV_MAX_COUNT + UINT64_C(1);
+    refused(needed, 5, 0);
 }
 
 /* Each number has a sentence of its own. */

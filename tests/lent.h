@@ -13,7 +13,7 @@
 /* What a border holds: a NaN, so that a read past an end shows in the answer. */
 #define AROUND UINT64_C(0x7ff4dead0000beef)
 
-enum { BORDER = 4, MOST_LENT = 64 };
+enum { BORDER = 4, MOST_LENT = 128 };
 enum role { OUTPUT, INPUT, BOTH };
 
 typedef struct {

@@ -55,6 +55,10 @@ wrong() { # CASE WRONG MESSAGE: the case with the wrong library
     replay=$work/replay
 }
 
+over() { # KIND STEPS WINDOWS WARM-UP: a refusal 5, by the last digits: 6 at the limit, 7 one above it
+    first "^$1 .*steps=1677721$2 windows=1677721$3 warmup=1677721$4 .*num=5 "
+}
+
 ended='^run .*num=0 .* rows=[0-9a-f]{16}.* exps=[0-9a-f]{16},.* final=[0-9a-f]{16},'
 refused='^run .*num=1[123] .* rows=\.,.* exps=\..* final=\.'
 late='^run .*num=1[4678] .* finished=[1-9].* rows=[0-9a-f]{16}.*,\.'
@@ -109,14 +113,11 @@ for name in ftime mtime; do
     answer "$ended" "s/( $name=)$x/\17ff8000000000000/" "$name, entry 0: "
     answer "$late" "s/( $name=)-/\13ff0000000000000/" "$name, entry 0: "
 done
-for kind in build step orth rates; do
+for kind in build validate step orth rates; do
     answer "^$kind .*num=[1-9]" 's/(-> num=)[0-9]*/\10/' 'num, entry 0: '
     answer "^$kind .*num=0" 's/(-> num=)0/\17/' 'num, entry 0: '
     answer "^$kind .*num=0" 's/(-> .*place=)0/\11/' 'place: 0, listed 1'
 done
-answer '^build .*num=5 place=1/2' 's/place=1.2/place=0/' 'place: 1, listed 0'
-answer '^build .*num=5 place=1/2' 's/place=1.2/place=2/' 'place: 1, listed 2'
-answer '^build .*num=5 place=0' 's/place=0/place=1\/2/' 'place: 0, listed 1/2'
 answer '^root' "s/( y=)$x/\17ff8000000000000/" 'y, entry 0: '
 answer '^root .*y=7ff8' 's/( y=)7ff8000000000000/\10000000000000000/' 'y, entry 0: '
 answer '^log .*num=0' "s/( y=)$x/\1-/" 'y: written'
@@ -139,6 +140,38 @@ answer "$few_cells" 's/num=25/num=10/' 'num, entry 0: 25, listed 10'
 answer "$few_cells" 's/(-> .*place=)0/\11/' 'place: 0, listed 1'
 answer '^run .*num=25 ' 's/num=25/num=7/' 'num, entry 0: 25, listed 7'
 
+# Refusal 5 at a later count that is over too, in place of the first, in the list and in each function.
+later() { # STEPS WINDOWS WARM-UP FIRST LATER NEXT-OR-LAST
+    local kind call asked
+    for kind in build validate run; do
+        edited "$(over "$kind" "$1" "$2" "$3")" "s/place=$4/place=$5/" "place: $4, listed $5"
+    done
+    for call in build:estimate_spectrum_at validate:validate \
+        run:estimate_spectrum_at run:estimate_spectrum run:validate; do
+        asked=${call#*:}
+        wrong "$(over "${call%:*}" "$1" "$2" "$3")" "$asked at the $6" \
+            "lyapunov_$asked: place: $5, listed $4"
+    done
+}
+later 7 7 6 0 1 next
+later 7 6 7 0 2 next
+later 6 7 7 1 2 next
+later 7 7 7 0 1 next
+later 7 7 7 0 2 last
+for warm_up in 6 7; do
+    wrong "$(over build 7 7 $warm_up)" 'build_config at the next' 'lyapunov_build_config: place: 1, listed 0'
+done
+no_warm_up=$(first '^run .*steps=16777217 windows=16777217 warmup=0 ')
+wrong "$no_warm_up" 'estimate_largest at the next' 'lyapunov_estimate_largest: place: 1, listed 0'
+
+# A count that is not over, and the several places of an older list, of which the first is the place.
+edited "$(over build 6 7 7)" 's/place=1/place=0/' 'place: 1, listed 0'
+all_over=$(over build 7 7 7)
+sed 's/place=0/place=0\/1\/2/' <<<"$all_over" >"$list" && met 'several places'
+edited "$all_over" 's/place=0/place=1\/0\/2/' 'place: 0, listed 1'
+edited "$all_over" 's/place=0/place=\/0/' 'malformed line 1: no decimal number: /0'
+edited "$all_over" 's/place=0/place=0,1/' 'malformed line 1: no decimal number: 0,1'
+
 # Lines and lists that do not read.
 answer '^run' 's/ -> / /' 'malformed line 1: no answer'
 answer '^run' 's/ K=/ -> K=/' 'malformed line 1: two arrows'
@@ -157,18 +190,21 @@ answer "$ring" 's/sys=lorenz96:[0-9]*/sys=lorenz96:/' 'malformed line 1: no deci
 answer "$ring" 's/sys=lorenz96:/sys=lorenz:/' 'malformed line 1: unknown system'
 answer "$ring" "s/( par=)$x/\1-/" 'malformed line 1: so many parameters'
 answer '^prog .*bytes=0' 's/bytes=0/bytes=/' 'malformed line 1: no bytes'
+answer '^validate' 's/ -> / rowslen=3 -> /' 'malformed line 1: unknown field: rowslen'
 printf '# a remark\n\n' >"$list" && must_notice 'a list of no cases' '0 of 0 cases replayed'
 first '^root' | tr -d '\n' >"$list" && must_notice 'a list that ends inside a line' 'line 1: no end'
 first '^root' | sed 's/$/\x00 more/' >"$list" && must_notice 'a zero byte' 'line 1: a zero byte'
 
 # Libraries that write beside a slice, write what is lent for reading, or leave a number unwritten.
-a_run=$(first "$ended") a_step=$(first "$step")
+a_run=$(first "$ended") a_step=$(first "$step") accepted=$(first '^validate .*num=0')
 for where in before behind; do
     for slice in rows exponents final_state counts times; do
         wrong "$a_run" "$slice $where" "memory $where $slice was written"
     done
     wrong "$a_run" "matrix $where" "memory $where mat was written"
     wrong "$a_run" "state $where" "memory $where x0 was written"
+    wrong "$accepted" "matrix $where" "memory $where mat was written"
+    wrong "$accepted" "state $where" "memory $where x0 was written"
     wrong "$a_step" "matrix $where" "memory $where mat was written"
     wrong "$a_step" "state $where" "memory $where state was written"
     wrong "$a_step" "tangents $where" "memory $where dirs was written"
@@ -177,16 +213,18 @@ for where in before behind; do
     wrong "$(first '^log')" "out $where" "memory $where out was written"
     wrong "$(first '^rates')" "rates $where" "memory $where rates was written"
     wrong "$(first '^rates')" "out $where" "memory $where out was written"
-    for kind in build run step orth rates; do
+    for kind in build validate run step orth rates; do
         wrong "$(first "^$kind")" "place $where" "memory $where place was written"
     done
 done
 wrong "$(first '^run .*sys=linear.*num=0')" 'matrix changed' 'memory of the input mat was written'
 wrong "$a_run" 'state changed' 'memory of the input x0 was written'
+wrong "$accepted" 'matrix changed' 'memory of the input mat was written'
+wrong "$accepted" 'state changed' 'memory of the input x0 was written'
 wrong "$(first '^rates .*num=0')" 'rates changed' 'memory of the input rates was written'
 wrong "$a_run" 'counts kept' 'place: '
 wrong "$a_run" 'times kept' 'ftime, entry 0: '
-for kind in build run step orth rates; do
+for kind in build validate run step orth rates; do
     wrong "$(first "^$kind")" 'place kept' 'place: '
 done
 for slice in rows:rows exponents:exps final_state:final; do
@@ -194,12 +232,13 @@ for slice in rows:rows exponents:exps final_state:final; do
 done
 
 # Libraries that refuse or run otherwise.
-over=$(first '^build .*num=5 place=1/2')
-both_over=$(sed -E 's/steps=[0-9]*/steps=16777217/; s/place=1.2/place=0\/1\/2/' <<<"$over")
-wrong "$over" 'place by K' 'refused by 5 at 1, but with K 17'
-wrong "$over" 'place by outputs' 'refused by 5 at 1, but with K 16 and rows of 600'
-wrong "$both_over" "builder's place by K" 'place with K 17, entry 0: 1, listed 0'
-wrong "$over" 'builder accepts' 'lyapunov_build_config: num, entry 0: 0, listed 5'
+two_over=$(over build 6 7 7)
+wrong "$two_over" 'place by K' 'refused by 5 at 1, but with K 17'
+wrong "$two_over" 'place by outputs' 'refused by 5 at 1, but with K 16 and rows of 600'
+wrong "$all_over" "builder's place by K" 'place with K 17, entry 0: 1, listed 0'
+wrong "$two_over" 'builder accepts' 'lyapunov_build_config: num, entry 0: 0, listed 5'
+wrong "$accepted" 'outputs tested' 'lyapunov_validate: num, entry 0: 13, listed 0'
+wrong "$(first '^validate .*num=6 ')" 'input accepted' 'lyapunov_validate: num, entry 0: 0, listed 6'
 wrong "$(first '^run .*num=11 ')" 'input accepted' 'lyapunov_validate: num, entry 0: 0, listed 11'
 wrong "$(first '^run .*num=13 ')" 'outputs tested' 'lyapunov_validate: num, entry 0: 13, listed 0'
 from_zero=$(first '^run .*sys=rossler .*K=1 h=3.* warmup=0 seed=4c594150554e4f56 t0=0000000000000000 .*num=0')

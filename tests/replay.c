@@ -105,13 +105,18 @@ static int value_is(const lent *l, const char *name) {
     return entry(l, 0) == FILLING ? 1 : differs("%s: written", name);
 }
 
-/* The place may be one of several, parted by `/`. */
+/* A list from before document 02's request b may have several places of a 5, parted by `/`: the
+ * first is the place, and the rest is passed over. */
+static uint64_t listed_place(void) {
+    const char *at = answered("place");
+    return read_decimal(&at, "/");
+}
+
 static int place_is(uint64_t place) {
-    for (const char *at = answered("place");; at++) {
-        if (read_decimal(&at, "/") == place) return 1;
-        if (*at == '\0') break;
-    }
-    return differs("place: %llu, listed %s", (unsigned long long)place, answered("place"));
+    uint64_t listed = listed_place();
+    if (place == listed) return 1;
+    return differs("place: %llu, listed %llu", (unsigned long long)place,
+                   (unsigned long long)listed);
 }
 
 static int refused_as(uint64_t num, uint64_t place) {
@@ -283,17 +288,16 @@ static uint64_t build(const run *r, const lent *place) {
     return lyapunov_build_config(r->top_k, r->step_size, r->steps, r->windows, words(place));
 }
 
-/* The builder, which knows of no warm-up windows: where they alone are over, it accepts. */
+/* The builder, which knows of no warm-up windows: where they are the first over, it accepts. */
 static int replay_builder(const run *r) {
     const lent *place = lend("place", OUTPUT, 1), *again = lend("place", OUTPUT, 1);
     uint64_t num = build(r, place);
     run other = *r;
     if (!memory_kept()) return 0;
-    if (strcmp(answered("num"), "5") == 0 && strcmp(answered("place"), "2") == 0)
+    if (decimal(answered("num")) == 5 && listed_place() == 2)
         return number_is("num", 0, num, 0) && number_is("place", 0, entry(place, 0), 0);
     if (!refused_as(num, entry(place, 0))) return 0;
     if (num != 5) return 1;
-    if (entry(place, 0) == 2) return differs("place 2, of warm-up windows");
     other.top_k = 17;
     return number_is("num with K 17", 0, build(&other, again), 5) &&
            number_is("place with K 17", 0, entry(again, 0), entry(place, 0));
@@ -356,10 +360,20 @@ static int input_is(const run *r) {
     return number_is("num", 0, num, 0) && number_is("place", 0, entry(place, 0), 0);
 }
 
-static int replay_run(void) {
+static run read_run(void) {
     run r = {.circuit = read_circuit(), .start = lend_list("x0", INPUT)};
     r.time = number(given("t0"));
     read_settings(&r);
+    return r;
+}
+
+static int replay_validate(void) {
+    run r = read_run();
+    return input_is(&r);
+}
+
+static int replay_run(void) {
+    run r = read_run();
     if (!run_is(&r, spectrum_at) || !input_is(&r)) return 0;
     if (bits_of(r.time) != 0) return 1;
     if (!run_is(&r, spectrum_from_zero)) return 0;
@@ -446,7 +460,8 @@ static int replay(char *line) {
     static const struct { const char *name; int (*replay)(void); } kinds[] = {
         {"root", replay_root}, {"log", replay_log},     {"draw", replay_draw},
         {"orth", replay_orth}, {"step", replay_step},   {"build", replay_build},
-        {"run", replay_run},   {"rates", replay_rates}, {"prog", replay_program}};
+        {"run", replay_run},   {"rates", replay_rates}, {"prog", replay_program},
+        {"validate", replay_validate}};
     const char *kind = read_line(line), *id = given("id");
     for (size_t i = 0; i < sizeof kinds / sizeof *kinds; i++) {
         if (strcmp(kind, kinds[i].name) != 0) continue;

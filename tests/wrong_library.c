@@ -73,6 +73,19 @@ static uint64_t of_cells(uint64_t number, size_t dimension, size_t state_len) {
     return state_len != dimension && is_wrong("state before", "cells") ? 10 : number;
 }
 
+/* A refusal 5 at the next count that is over too, or at the last, in place of the first. */
+static void put_later(const char *function, uint64_t number, uint64_t *place, uint64_t steps,
+                      uint64_t windows, uint64_t warm_up) {
+    const uint64_t counts[] = {steps, windows, warm_up};
+    int last = is_wrong(function, "at the last");
+    if (number != 5 || (!last && !is_wrong(function, "at the next"))) return;
+    for (uint64_t i = *place + 1; i < 3; i++) {
+        if (counts[i] <= LYAPUNOV_MAX_COUNT) continue;
+        *place = i;
+        if (!last) return;
+    }
+}
+
 /* Turns each vector around, so that a cell's neighbours change sides. */
 static void turn(double *at, size_t length, size_t dimension) {
     if (dimension == 0 || !is_wrong("neighbours", "turned")) return;
@@ -123,6 +136,7 @@ uint64_t __wrap_lyapunov_build_config(
     uint64_t n = lyapunov_build_config(top_k, step_size, steps_per_window, windows, place);
     if (n == 5 && top_k == 17 && is_wrong("builder's place", "by K")) *place = 1;
     if (is_wrong("builder", "accepts")) n = *place = 0;
+    put_later("build_config", n, place, steps_per_window, windows, 0);
     return spoiled(n);
 }
 
@@ -139,6 +153,7 @@ uint64_t __wrap_lyapunov_validate(
                                    transient_windows, place);
     if (is_wrong("input", "accepted")) n = *place = 0;
     if (is_wrong("outputs", "tested") && n == 0) n = 13;
+    put_later("validate", n, place, steps_per_window, windows, transient_windows);
     return spoiled(n);
 }
 
@@ -169,6 +184,8 @@ uint64_t __wrap_lyapunov_estimate_spectrum_at(
         exponents_len, final_state, final_state_len, counts, times);
     if (n == 5 && top_k == 17 && is_wrong("place", "by K")) counts[LYAPUNOV_PLACE] = 2;
     if (n == 5 && rows_len == 600 && is_wrong("place", "by outputs")) counts[LYAPUNOV_PLACE] = 2;
+    put_later("estimate_spectrum_at", n, counts + LYAPUNOV_PLACE, steps_per_window, windows,
+              transient_windows);
     return spoiled(of_cells(n, dimension, state_len));
 }
 
@@ -179,10 +196,13 @@ uint64_t __wrap_lyapunov_estimate_spectrum(
     double *rows, size_t rows_len, double *exponents, size_t exponents_len, double *final_state,
     size_t final_state_len, uint64_t *counts, double *times) {
     double time = is_wrong("from time", "one") ? 1.0 : 0.0;
-    return lyapunov_estimate_spectrum_at(
+    uint64_t n = lyapunov_estimate_spectrum_at(
         kind, p0, p1, p2, dimension, matrix, matrix_len, time, state, state_len, top_k, step_size,
         steps_per_window, windows, transient_windows, seed, rows, rows_len, exponents,
         exponents_len, final_state, final_state_len, counts, times);
+    put_later("estimate_spectrum", n, counts + LYAPUNOV_PLACE, steps_per_window, windows,
+              transient_windows);
+    return n;
 }
 
 uint64_t __wrap_lyapunov_estimate_largest(
@@ -192,10 +212,12 @@ uint64_t __wrap_lyapunov_estimate_largest(
     size_t exponents_len, double *final_state, size_t final_state_len, uint64_t *counts,
     double *times) {
     uint64_t seed = is_wrong("another", "seed") ? 1 : LYAPUNOV_DEFAULT_SEED;
-    return lyapunov_estimate_spectrum(
+    uint64_t n = lyapunov_estimate_spectrum(
         kind, p0, p1, p2, dimension, matrix, matrix_len, state, state_len, 1, step_size,
         steps_per_window, windows, is_wrong("one", "warm-up"), seed, rows, rows_len, exponents,
         exponents_len, final_state, final_state_len, counts, times);
+    put_later("estimate_largest", n, counts + LYAPUNOV_PLACE, steps_per_window, windows, 0);
+    return n;
 }
 
 uint64_t __wrap_lyapunov_kaplan_yorke_dimension(

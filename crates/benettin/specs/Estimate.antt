@@ -39,19 +39,17 @@ pub record Input : Type 0 where
 abbrev pub limit : ℕ
 limit = 16777216
 
--- 3 to 5: steps and windows not 0, then the first count over the limit (0 steps, 1 windows, 2 warm-up). A run that goes on makes `later` windows of `total`; any other run has the same count twice
-abbrev pub limit-tests : ℕ → ℕ → ℕ → ℕ → List Test
-limit-tests steps later total warm-up =
-    test (ltb 0 steps) 3 0
-    ∷ test (ltb 0 later) 4 0
-    ∷ test (leb steps limit) 5 0
-    ∷ test (leb total limit) 5 1
-    ∷ test (leb warm-up limit) 5 2
-    ∷ []
+-- 3 and 4: a window has steps, and there are measured windows
+abbrev pub nonzero-tests : ℕ → ℕ → List Test
+nonzero-tests steps windows = test (ltb 0 steps) 3 0 ∷ test (ltb 0 windows) 4 0 ∷ []
 
--- 1 to 5
+-- 5, as document 02, b) has it: the first count over the limit, in the order steps, windows, warm-up. Its place is that of the count in this order
+abbrev pub limit-tests : ℕ → ℕ → ℕ → List Test
+limit-tests steps windows warm-up = test (leb steps limit) 5 0 ∷ test (leb windows limit) 5 1 ∷ test (leb warm-up limit) 5 2 ∷ []
+
+-- 1 to 5. A run that goes on makes `later` windows of `total`; any other run has the same count twice
 abbrev pub setting-tests : ℕ → Float → ℕ → ℕ → ℕ → ℕ → List Test
-setting-tests K h steps later total warm-up = top-k-tests K ++ step-size-tests h ++ limit-tests steps later total warm-up
+setting-tests K h steps later total warm-up = top-k-tests K ++ step-size-tests h ++ nonzero-tests steps later ++ limit-tests steps total warm-up
 
 abbrev pub is-none : Option ℕ → Bool
 is-none none = true
@@ -69,7 +67,8 @@ state-tests S x = length-tests S x ++ finite-tests x
 abbrev pub early-tests : ℕ → Input → List Test
 early-tests total i =
     step-size-tests (i .step-size)
-    ++ limit-tests (i .steps) (i .windows) total (i .warm-up)
+    ++ nonzero-tests (i .steps) (i .windows)
+    ++ limit-tests (i .steps) total (i .warm-up)
     ++ time-tests (i .time)
     ++ dimension-tests (i .system)
     ++ matrix-tests (i .system) (i .matrix)

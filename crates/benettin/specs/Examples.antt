@@ -1,13 +1,14 @@
 -- Small runs and settings by computation, held against the bits that the Rust gives. Crate estimator has the pairs of runs that take longer.
-use Prim.Native.Nat.{ℕ}
+use Prim.Native.Nat.{ℕ, _+_}
 use mathlib.Core.Path.{_≡_, refl}
 use mathlib.Core.Bool.{false}
 use mathlib.Core.List.{List, [], _∷_, _++_, map}
-use mathlib.Core.Option.{none}
+use mathlib.Core.Option.{Option, none, some}
 use lib.IntN.{pos, negsuc}
 use lib.Ieee.{fin, binary64, ofBits, toBits, add, sub, mul, div, neg, round, ofInt, le, lt, eq}
 use Rattle.error.specs.Refusal.{value, refused, refuse, refusal-in}
 use Rattle.error.specs.Tests.{first-failing}
+use Rattle.error.specs.declared.Refusal.{Refusal}
 use Rattle.floats.specs.Arithmetic.{bits, half, whole}
 use Rattle.floats.specs.Vector.{dot-from, zip}
 use Rattle.sqrt.specs.SquareRoot.{root}
@@ -16,7 +17,7 @@ use Rattle.splitmix64.specs.Mix.{mix, unit}
 use Rattle.system.specs.declared.System.the-variants.{VanDerPol, Linear, Lorenz96}
 use Rattle.benettin.specs.Run.{RunAnswer, ended, stopped, Row, lengths, faint-or-not}
 use Rattle.gram_schmidt.specs.GramSchmidt.{euclidean}
-use Rattle.benettin.specs.Estimate.{Input, estimate, default-seed, configured, with-warm-up, with-seed}
+use Rattle.benettin.specs.Estimate.{Input, limit, limit-tests, estimate, default-seed, configured, with-warm-up, with-seed}
 use Rattle.benettin.specs.declared.BenettinConfig.{BenettinConfig}
 
 abbrev row-bits : Row → List ℕ
@@ -36,22 +37,22 @@ answer-bits (stopped rows r f) = map row-bits rows ++ ((r .number ∷ r .place �
 
 -- ---- van der Pol, one warm-up window and two measured ones of two steps
 
-unfoldable pub van-der-pol : Input
+unfoldable pub van-der-pol : ℕ → ℕ → Input
 unfolding ofInt
-van-der-pol =
+van-der-pol windows warm-up =
     record {
       system = VanDerPol (whole 2);
       matrix = [];
       step-size = fin false 1 (negsuc 2);
       steps = 2;
-      windows = 2;
-      warm-up = 1;
+      windows = windows;
+      warm-up = warm-up;
       seed = default-seed;
       time = whole 5;
       state = whole 3 ∷ whole 1 ∷ [];
     }
 
-pub van-der-pol-1 : answer-bits (estimate van-der-pol 1 (lengths 6 1 2)) ≡
+pub van-der-pol-1 : answer-bits (estimate (van-der-pol 2 1) 1 (lengths 6 1 2)) ≡
     (0x4016000000000000 ∷ 0xbff4a962d1ebe792 ∷ 0xbff4a962d1ebe792 ∷ [])
     ∷ (0x4017000000000000 ∷ 0x3f89df4bd4a20c74 ∷ 0xbfe475a43a42a379 ∷ [])
     ∷ (0xbfe475a43a42a379 ∷ [])
@@ -62,7 +63,7 @@ unfolding estimate van-der-pol root log mix unit dot-from add sub mul div neg ro
 van-der-pol-1 = refl
 
 -- rows one float short
-pub van-der-pol-short : answer-bits (estimate van-der-pol 1 (lengths 5 1 2)) ≡ (13 ∷ 0 ∷ 0 ∷ 0 ∷ []) ∷ (0 ∷ []) ∷ []
+pub van-der-pol-short : answer-bits (estimate (van-der-pol 2 1) 1 (lengths 5 1 2)) ≡ (13 ∷ 0 ∷ 0 ∷ 0 ∷ []) ∷ (0 ∷ []) ∷ []
 unfolding estimate van-der-pol root log mix unit dot-from add sub mul div neg round ofInt le lt eq toBits ofBits
 van-der-pol-short = refl
 
@@ -135,6 +136,24 @@ pub settings-built : (configured 3 half 10 200 ≡ value built-settings)
     × (refusal-in (configured 3 half 16777216 200) ≡ none) × (configured 3 half 10 16777217 ≡ refused (refuse 5 1)) × (configured 0 half 0 0 ≡ refused (refuse 1 0))
 unfolding configured first-failing lt
 settings-built = (refl, refl, refl, refl)
+
+-- each combination of counts at the limit and one above it
+abbrev over : ℕ → ℕ → ℕ → Option Refusal
+over steps windows warm-up = first-failing (limit-tests (limit + steps) (limit + windows) (limit + warm-up))
+
+pub first-over : (over 0 0 0 ≡ none) × (over 0 0 1 ≡ some (refuse 5 2)) × (over 0 1 0 ≡ some (refuse 5 1)) × (over 0 1 1 ≡ some (refuse 5 1))
+    × (over 1 0 0 ≡ some (refuse 5 0)) × (over 1 0 1 ≡ some (refuse 5 0)) × (over 1 1 0 ≡ some (refuse 5 0)) × (over 1 1 1 ≡ some (refuse 5 0))
+unfolding first-failing
+first-over = (refl, refl, refl, refl, refl, refl, refl, refl)
+
+-- a run with windows and warm-up windows over, and building with steps and windows over
+pub run-over : answer-bits (estimate (van-der-pol (limit + 1) (limit + 1)) 1 (lengths 6 1 2)) ≡ (5 ∷ 1 ∷ 0 ∷ 0 ∷ []) ∷ (0 ∷ []) ∷ []
+unfolding estimate van-der-pol lt ofInt
+run-over = refl
+
+pub build-over : configured 3 half (limit + 1) (limit + 1) ≡ refused (refuse 5 0)
+unfolding configured first-failing lt
+build-over = refl
 
 pub settings-changed :
     (with-warm-up 7 built-settings ≡ record { «top_k» = 3; «step_size» = half; «steps_per_window» = 10; windows = 200; «transient_windows» = 7; seed = 0x4c59_4150_554e_4f56 })

@@ -46,7 +46,7 @@ pub struct SpectrumEstimate {
 }
 
 impl BenettinConfig {
-    // Settings with no warm-up windows and the default seed, tested by 1 to 5.
+    // Settings with no warm-up windows and the default seed, tested by 1 to 5. Of two counts over, 5 names the steps.
     pub fn new(top_k: usize, step_size: f64, steps_per_window: u64, windows: u64) -> Configured
         ensures { λ r. ⌜ Spec.configuration r ≡ Spec.configured «top_k» «step_size» «steps_per_window» windows ⌝ }
     {

@@ -1,5 +1,5 @@
 // The tests of a run, 1 to 13 with 25 behind 8: a function for each block of specs/Estimate.antt and of the end of
-// specs/Run.antt. Crate system has the others: the system and what is lent beside it, 2 and 6.
+// specs/Run.antt. Crate system_validation has the others: the system and what is lent beside it, 2 and 6.
 ghost use mathlib.Core.Path.{_≡_};
 ghost use Prim.Native.Nat.{_+_, _*_};
 ghost use lib.Dec.{leb};
@@ -13,31 +13,35 @@ use error::LyapunovError;
 use error::Outcome;
 use system::System;
 
-// The tests 3 to 5. A run that goes on makes `later` windows of `total`; any other run has the same count twice.
-fn validate_limits(steps: u64, later: u64, total: u64, warm_up: u64) -> Outcome
-    ensures { λ r. ⌜ reported r ≡ first-failing (Estimate.limit-tests steps later total «warm_up») ⌝ }
+// The tests 3 and 4.
+fn validate_nonzero(steps: u64, windows: u64) -> Outcome
+    ensures { λ r. ⌜ reported r ≡ first-failing (Estimate.nonzero-tests steps windows) ⌝ }
 {
-    let some_steps = error::test(0 < steps, LyapunovError::ZeroStepsPerWindow);
-    let some_windows = error::test(0 < later, LyapunovError::ZeroWindows);
+    let steps = error::test(0 < steps, LyapunovError::ZeroStepsPerWindow);
+    let windows = error::test(0 < windows, LyapunovError::ZeroWindows);
+    error::first_refusal(steps, windows)
+}
+
+// Test 5: the first count over the limit, in the order steps, windows, warm-up.
+fn validate_limits(steps: u64, windows: u64, warm_up: u64) -> Outcome
+    ensures { λ r. ⌜ reported r ≡ first-failing (Estimate.limit-tests steps windows «warm_up») ⌝ }
+{
     let steps = error::test(
         steps <= crate::COUNT_LIMIT,
         LyapunovError::CountAboveLimit(0),
     );
     let windows = error::test(
-        total <= crate::COUNT_LIMIT,
+        windows <= crate::COUNT_LIMIT,
         LyapunovError::CountAboveLimit(1),
     );
     let warm_up = error::test(
         warm_up <= crate::COUNT_LIMIT,
         LyapunovError::CountAboveLimit(2),
     );
-    let rest = error::first_refusal(windows, warm_up);
-    let rest = error::first_refusal(steps, rest);
-    let rest = error::first_refusal(some_windows, rest);
-    error::first_refusal(some_steps, rest)
+    error::first_refusal(error::first_refusal(steps, windows), warm_up)
 }
 
-// The tests 1 to 5.
+// The tests 1 to 5. A run that goes on makes `later` windows of `total`; any other run has the same count twice.
 pub fn validate_settings(
     top_k: usize,
     step_size: f64,
@@ -50,8 +54,10 @@ pub fn validate_settings(
 {
     let top_k = error::test(0 < top_k, LyapunovError::ZeroTopK);
     let step_size = system_validation::validate_step_size(step_size);
-    let limits = validate_limits(steps, later, total, warm_up);
-    let rest = error::first_refusal(step_size, limits);
+    let nonzero = validate_nonzero(steps, later);
+    let limits = validate_limits(steps, total, warm_up);
+    let rest = error::first_refusal(nonzero, limits);
+    let rest = error::first_refusal(step_size, rest);
     error::first_refusal(top_k, rest)
 }
 

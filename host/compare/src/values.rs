@@ -22,8 +22,6 @@ pub fn same_list(left: &[f64], right: &[f64]) -> bool {
 #[derive(Clone, Debug, PartialEq)]
 pub enum Value {
     Count(u64),
-    /// The places that a refusal may have; a called function answers with one.
-    Places(Vec<u64>),
     Float(f64),
     /// No value: the function left its output alone.
     Nothing,
@@ -39,7 +37,7 @@ pub enum Value {
 #[derive(Clone, Copy, Debug)]
 pub enum Type {
     Count,
-    Places,
+    Place,
     Float,
     Floats,
     Counts,
@@ -50,7 +48,7 @@ pub enum Type {
 /// The type of each field that an answer may have.
 const TYPES: [(Type, &[&str]); 7] = [
     (Type::Count, &["num", "finished", "made"]),
-    (Type::Places, &["place"]),
+    (Type::Place, &["place"]),
     (Type::Float, &["y", "ftime", "mtime", "dim", "ent"]),
     (
         Type::Floats,
@@ -75,9 +73,6 @@ impl Value {
     /// Whether `actual` is what this reference value asks for.
     pub fn admits(&self, actual: &Value) -> bool {
         match (self, actual) {
-            (Value::Places(allowed), Value::Places(one)) => {
-                one.len() == 1 && allowed.contains(&one[0])
-            }
             (Value::Float(a), Value::Float(b)) => same(*a, *b),
             (Value::Floats(a), Value::Floats(b)) => same_list(a, b),
             (Value::Leading(a), Value::Floats(b)) => {
@@ -90,7 +85,7 @@ impl Value {
     pub fn read(text: &str, as_type: Type) -> Result<Value, String> {
         Ok(match as_type {
             Type::Count => Value::Count(read_count(text)?),
-            Type::Places => Value::Places(read_list(text, '/', read_count)?),
+            Type::Place => Value::Count(read_place(text)?),
             Type::Float if text == "-" => Value::Nothing,
             Type::Float => Value::Float(read_float(text)?),
             Type::Floats => Value::Floats(read_list(text, ',', read_entry)?),
@@ -103,7 +98,6 @@ impl Value {
     pub fn written(&self) -> String {
         match self {
             Value::Count(n) => n.to_string(),
-            Value::Places(places) => list(places, "/", u64::to_string),
             Value::Float(x) => entry(x),
             Value::Nothing => "-".to_string(),
             Value::Floats(values) | Value::Leading(values) => list(values, ",", entry),
@@ -151,6 +145,12 @@ pub fn read_count(text: &str) -> Result<u64, String> {
     text.parse().map_err(|_| format!("{text} is no count"))
 }
 
+/// A list from before document 02's request b may have several places of a 5, parted by `/`: the
+/// first is the place, and the rest is passed over.
+fn read_place(text: &str) -> Result<u64, String> {
+    read_count(text.split('/').next().unwrap_or(text))
+}
+
 pub fn read_word(text: &str) -> Result<u64, String> {
     let is_digit = |c: u8| c.is_ascii_digit() || (b'a'..=b'f').contains(&c);
     if text.len() != 16 || !text.bytes().all(is_digit) {
@@ -192,14 +192,9 @@ pub struct Answer {
 impl Answer {
     /// An answer that begins with a refusal's number, 0 for none, and its place.
     pub fn refusal(refusal: Refusal) -> Self {
-        Self::of_number(refusal.number, Value::Places(vec![refusal.place]))
-    }
-
-    /// An answer that begins with a refusal's number and the places that it may have.
-    pub fn of_number(number: u64, places: Value) -> Self {
         Self::default()
-            .with("num", Value::Count(number))
-            .with("place", places)
+            .with("num", Value::Count(refusal.number))
+            .with("place", Value::Count(refusal.place))
     }
 
     /// The answer of what was not refused, as far as it begins.
@@ -265,10 +260,19 @@ mod tests {
         let floats = Value::Floats(vec![1.0, FILLING]);
         assert_eq!(floats.written(), "3ff0000000000000,.");
         assert_eq!(Value::read("3ff0000000000000,.", Type::Floats), Ok(floats));
-        let places = Value::Places(vec![0, 2]);
-        assert_eq!(Value::read(&places.written(), Type::Places), Ok(places));
         assert_eq!(Value::read("-", Type::Floats), Ok(Value::Floats(vec![])));
         assert_eq!(Value::read("-", Type::Float), Ok(Value::Nothing));
+    }
+
+    #[test]
+    fn of_several_places_the_first_is_read() {
+        for (text, place) in [("2", 2), ("0/2", 0), ("1/2", 1), ("2/0/1", 2)] {
+            assert_eq!(Value::read(text, Type::Place), Ok(Value::Count(place)));
+        }
+        for text in ["", "-", "/1", "x/1"] {
+            assert!(Value::read(text, Type::Place).is_err(), "{text}");
+        }
+        assert!(Value::read("0/2", Type::Count).is_err());
     }
 
     #[test]
@@ -282,9 +286,8 @@ mod tests {
 
     #[test]
     fn references_say_what_they_ask() {
-        let one_of_two = Value::Places(vec![0, 2]);
-        assert!(one_of_two.admits(&Value::Places(vec![2])));
-        assert!(!one_of_two.admits(&Value::Places(vec![1])));
+        assert!(Value::Count(2).admits(&Value::Count(2)));
+        assert!(!Value::Count(2).admits(&Value::Count(1)));
         let leading = Value::Leading(vec![1.0]);
         assert!(leading.admits(&Value::Floats(vec![1.0, 5.0])));
         assert!(!leading.admits(&Value::Floats(vec![])));

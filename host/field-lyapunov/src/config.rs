@@ -87,3 +87,6 @@ impl BenettinConfig {
         &self.settings
     }
 }
+
+#[cfg(test)]
+mod tests;

@@ -15,7 +15,7 @@ macro_rules! refusals {
         /// let error = BenettinConfig::new(3, 0.01, 10, usize::MAX).unwrap_err();
         /// assert_eq!(error, LyapunovError::CountAboveLimit(1));
         /// assert_eq!((error.number(), error.place()), (5, 1));
-        /// assert_eq!(error.to_string(), "the number of windows is above 16777216");
+        /// assert_eq!(error.to_string(), "windows is above 16777216");
         /// ```
         #[derive(Clone, Copy, Debug, PartialEq, Eq, Hash)]
         #[non_exhaustive]
@@ -32,8 +32,8 @@ macro_rules! refusals {
                 }
             }
 
-            /// The index, direction or output that the refusal points at; 0 where it points at
-            /// none.
+            /// The index, direction, count or output that the refusal points at; 0 where it points
+            /// at none.
             #[must_use]
             pub const fn place(&self) -> usize {
                 match *self {
@@ -73,10 +73,11 @@ refusals! {
     3 ZeroStepsPerWindow => "a window has no steps";
     /// 4: there are no measured windows.
     4 ZeroWindows => "there are no measured windows";
-    /// 5: a count is above [`MAX_COUNT`](crate::MAX_COUNT): 0 steps a window, 1 windows,
-    /// 2 warm-up windows.
+    /// 5: a count is above [`MAX_COUNT`](crate::MAX_COUNT); the first count that is, in the order
+    /// 0 `steps_per_window`, 1 `windows`, 2 `transient_windows`. A settings form can highlight that
+    /// field, which the text names too.
     5 CountAboveLimit(place) =>
-        format_args!("the number of {} is above {}", count_name(place), crate::MAX_COUNT);
+        format_args!("{} is above {}", count_name(place), crate::MAX_COUNT);
     /// 6: the start time, or the time of a step, is not finite.
     6 InvalidInitialTime => "the start time is not finite";
     /// 7: the dimension is 0.
@@ -139,12 +140,13 @@ pub(crate) fn answered(refusal: Refusal) -> crate::Result<()> {
     }
 }
 
-/// The name of the count at a place of refusal 5.
+/// The field of the settings at a place of refusal 5. The library has no other place.
 fn count_name(place: usize) -> &'static str {
     match place {
-        0 => "steps a window",
+        0 => "steps_per_window",
         1 => "windows",
-        _ => "warm-up windows",
+        2 => "transient_windows",
+        _ => "a count",
     }
 }
 
@@ -174,6 +176,24 @@ mod tests {
         }
         assert_eq!(LyapunovError::from_number(0, 0), None);
         assert_eq!(LyapunovError::from_number(26, 0), None);
+    }
+
+    #[test]
+    fn a_count_is_named_as_its_field() {
+        let texts = [0, 1, 2, 3, usize::MAX].map(|place| {
+            let error = LyapunovError::CountAboveLimit(place);
+            error.to_string()
+        });
+        assert_eq!(
+            texts,
+            [
+                "steps_per_window is above 16777216",
+                "windows is above 16777216",
+                "transient_windows is above 16777216",
+                "a count is above 16777216",
+                "a count is above 16777216",
+            ]
+        );
     }
 
     #[test]

@@ -1,5 +1,5 @@
-//! Document 01 and the ring of document 02 as plain Rust, written from the documents and not from
-//! the source.
+//! Document 01, with document 02's requests a (rings) and b (the place of refusal 5), as plain
+//! Rust, written from the documents and not from the source.
 //!
 //! It answers what the source has no behaviour for (refusals 5, 8, 9, 13, 21, 23, 24, 25, the bound
 //! of 16 in 19, faint counts, the rows of a refused run) and is a second opinion on the rest. It
@@ -18,7 +18,7 @@ pub use arithmetic::{
 };
 pub use orthonormalise::orthonormalise;
 pub use rates::{entropy, kaplan_yorke_dimension, spectrum_program};
-pub use run::{build_config, counts_over_limit, estimate, validate, Estimate, Outputs};
+pub use run::{build_config, estimate, first_count_over, validate, Estimate, Outputs};
 pub use step::step;
 
 use input::Refusal;

@@ -28,16 +28,17 @@ pub struct Estimate {
     pub measured_time: f64,
 }
 
-/// The places that refusal 5 may report: 0 steps, 1 windows, 2 warm-up.
-pub fn counts_over_limit(settings: &Settings) -> Vec<u64> {
-    let counts = [
-        settings.steps_per_window,
-        settings.windows,
-        settings.transient_windows,
-    ];
-    (0..3)
-        .filter(|place| counts[*place as usize] > MAX_COUNT)
-        .collect()
+/// The place of refusal 5: the first count that is over, in the order steps, windows, warm-up.
+pub fn first_count_over(settings: &Settings) -> Option<u64> {
+    if settings.steps_per_window > MAX_COUNT {
+        Some(0)
+    } else if settings.windows > MAX_COUNT {
+        Some(1)
+    } else if settings.transient_windows > MAX_COUNT {
+        Some(2)
+    } else {
+        None
+    }
 }
 
 /// Tests 1 to 5.
@@ -46,8 +47,8 @@ pub fn build_config(settings: &Settings) -> Result<(), Refusal> {
     refuse_if(!is_step_size(settings.step_size), Refusal::of(2))?;
     refuse_if(settings.steps_per_window == 0, Refusal::of(3))?;
     refuse_if(settings.windows == 0, Refusal::of(4))?;
-    match counts_over_limit(settings).first() {
-        Some(place) => Err(Refusal::at(5, *place)),
+    match first_count_over(settings) {
+        Some(place) => Err(Refusal::at(5, place)),
         None => Ok(()),
     }
 }

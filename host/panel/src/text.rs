@@ -86,7 +86,20 @@ fn warning(options: &Options, counts: &[u64]) -> String {
 /// A refusal in words, with its number and its place.
 fn refused(error: &LyapunovError) -> String {
     let (number, place) = (error.number(), error.place());
-    format!("refused by {number} at place {place}: {error}")
+    format!(
+        "refused by {number} at place {place}: {error}{}",
+        option(error)
+    )
+}
+
+/// The option that gives a count that is over.
+fn option(error: &LyapunovError) -> &'static str {
+    match error {
+        LyapunovError::CountAboveLimit(0) => " (--steps)",
+        LyapunovError::CountAboveLimit(1) => " (--windows)",
+        LyapunovError::CountAboveLimit(_) => " (--warm-up)",
+        _ => "",
+    }
 }
 
 pub fn refusal(run: &RefusedRun) -> String {

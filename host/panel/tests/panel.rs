@@ -335,7 +335,18 @@ fn refusals_are_told_with_number_and_place() {
         &["--windows", "18446744073709551615"],
         "refused by 5 at place 1",
     );
-    assert_unfit(&["--warm-up", "16777217"], "refused by 5 at place 2");
+    assert_unfit(
+        &["--warm-up", "16777217"],
+        "refused by 5 at place 2: transient_windows is above 16777216 (--warm-up)",
+    );
+    assert_unfit(
+        &["--windows", "16777217", "--warm-up", "16777217"],
+        "refused by 5 at place 1: windows is above 16777216 (--windows)",
+    );
+    assert_unfit(
+        &["--windows", "16777217", "--steps", "16777217"],
+        "refused by 5 at place 0: steps_per_window is above 16777216 (--steps)",
+    );
     assert_unfit(&["--time", "inf"], "refused by 6");
     let linear = |d, matrix| ["--system", "linear", "--dimension", d, "--matrix", matrix];
     assert_unfit(&linear("0", "1"), "refused by 7");

@@ -45,28 +45,17 @@ impl Case for Run {
 
     fn read(fields: &mut Fields) -> Result<Self, String> {
         Ok(Self {
-            entry: Entry::SpectrumAt,
-            circuit: Circuit::read(fields)?,
-            settings: settings::read(fields)?,
-            time: fields.float("t0")?,
-            state: fields.floats("x0")?,
             rows: fields.size("rowslen")?,
             exponents: fields.size("expslen")?,
             final_state: fields.size("finallen")?,
+            ..Self::read_input(fields)?
         })
     }
 
     fn written(&self) -> String {
-        format!(
-            "{} {} t0={} x0={} rowslen={} expslen={} finallen={}",
-            self.circuit.written(),
-            settings::written(&self.settings),
-            bits(&self.time),
-            list(&self.state, ",", bits),
-            self.rows,
-            self.exponents,
-            self.final_state
-        )
+        let (rows, exponents, final_state) = (self.rows, self.exponents, self.final_state);
+        let input = self.written_input();
+        format!("{input} rowslen={rows} expslen={exponents} finallen={final_state}")
     }
 
     fn model(&self) -> Answer {
@@ -79,7 +68,6 @@ impl Case for Run {
         };
         let (system, settings) = (&self.circuit.system, &self.settings);
         let estimate = model::estimate(system, self.time, &self.state, settings, &mut outputs);
-        let answer = settings::refused(settings, estimate.refusal);
         let outcome = Outcome {
             refusal: estimate.refusal.unwrap_or(Refusal::NONE),
             finished: estimate.finished,
@@ -91,7 +79,7 @@ impl Case for Run {
             exponents,
             final_state,
         };
-        outcome.after(answer)
+        outcome.answer()
     }
 
     /// The source has no 13 and no faint counts, and it drops the rows of a refused run; these are
@@ -133,15 +121,27 @@ impl Case for Run {
 
 impl Called for Run {
     fn library(&self) -> Result<Answer, String> {
-        let outcome = self.outcome()?;
-        let answer = Answer::refusal(outcome.refusal);
-        Ok(outcome.after(answer))
+        Ok(self.outcome()?.answer())
     }
 }
 
 impl Run {
     /// The tests before the first step in their order.
     pub const TESTS: [u64; 16] = [1, 2, 3, 4, 5, 6, 7, 8, 25, 9, 10, 11, 12, 13, 14, 15];
+
+    /// What is handed in apart from the outputs; these just fit.
+    pub fn read_input(fields: &mut Fields) -> Result<Self, String> {
+        let circuit = Circuit::read(fields)?;
+        let settings = settings::read(fields)?;
+        let (time, state) = (fields.float("t0")?, fields.floats("x0")?);
+        Ok(Self::fitting(circuit, settings, time, state))
+    }
+
+    pub fn written_input(&self) -> String {
+        let (circuit, settings) = (self.circuit.written(), settings::written(&self.settings));
+        let (time, state) = (bits(&self.time), list(&self.state, ",", bits));
+        format!("{circuit} {settings} t0={time} x0={state}")
+    }
 
     /// A run with outputs that just fit.
     pub fn fitting(circuit: Circuit, settings: Settings, time: f64, state: Vec<f64>) -> Self {
@@ -241,7 +241,7 @@ impl Run {
     /// The source's first failing test up to 12; nothing where one of 5, 8, 25 and 9, which it does
     /// not have, fails before it. It is stopped at its first evaluation.
     pub fn validated_by_source(&self, source: &dyn Source) -> Option<Refusal> {
-        if !model::counts_over_limit(&self.settings).is_empty() {
+        if model::first_count_over(&self.settings).is_some() {
             return match source.build_config(&self.settings) {
                 End::Refused(refusal) => Some(refusal),
                 _ => None,
@@ -294,11 +294,10 @@ impl Run {
 }
 
 impl Outcome {
-    /// The answer that begins with its refusal as `answer` has it.
-    fn after(self, answer: Answer) -> Answer {
+    fn answer(self) -> Answer {
         let times = [self.final_time, self.measured_time];
         let [final_time, measured_time] = times.map(|time| self.time(time));
-        answer
+        Answer::refusal(self.refusal)
             .with("finished", Value::Count(self.finished))
             .with("made", Value::Count(self.steps))
             .with("faint", Value::Counts(self.faint))

@@ -2,8 +2,8 @@
 
 use super::{Called, Case};
 use crate::line::Fields;
-use crate::values::{bits, word, Answer, Value};
-use input::{Refusal, Settings, System, MAX_COUNT};
+use crate::values::{bits, word, Answer};
+use input::{Refusal, Settings, System};
 use oracle::{End, Source};
 
 pub fn read(fields: &mut Fields) -> Result<Settings, String> {
@@ -29,16 +29,6 @@ pub fn written(settings: &Settings) -> String {
     )
 }
 
-/// A reference's answer to a refusal, as far as it begins: 5 may name any count that is over.
-pub fn refused(settings: &Settings, refusal: Option<Refusal>) -> Answer {
-    match refusal {
-        Some(Refusal { number: 5, .. }) => {
-            Answer::of_number(5, Value::Places(model::counts_over_limit(settings)))
-        }
-        other => Answer::refusal(other.unwrap_or(Refusal::NONE)),
-    }
-}
-
 /// Building settings: tests 1 to 5.
 #[derive(Clone, Copy, Debug)]
 pub struct Build(pub Settings);
@@ -56,12 +46,13 @@ impl Case for Build {
     }
 
     fn model(&self) -> Answer {
-        refused(&self.0, model::build_config(&self.0).err())
+        let built = model::build_config(&self.0);
+        Answer::refusal(built.err().unwrap_or(Refusal::NONE))
     }
 
     /// The source has no 5, which comes after its own tests.
     fn source(&self, source: &dyn Source) -> Option<Answer> {
-        let fits = model::counts_over_limit(&self.0).is_empty();
+        let fits = model::first_count_over(&self.0).is_none();
         match source.build_config(&self.0) {
             End::Refused(refusal) => Some(Answer::refusal(refusal)),
             End::Done(()) if fits => Some(Answer::done()),
@@ -72,22 +63,16 @@ impl Case for Build {
 
 impl Called for Build {
     /// The library's builder has no warm-up windows, as the source's has none. So a run is asked
-    /// for the same tests, and the builder too where the warm-up windows are not over.
+    /// for the same tests. The builder answers as it does, and accepts where the warm-up windows
+    /// are the first that are over.
     fn library(&self) -> Result<Answer, String> {
         let by_run = self.tested_by_run();
-        let mut with_other_k = *self;
-        with_other_k.0.top_k = 17;
-        if by_run.number == 5 && with_other_k.tested_by_run() != by_run {
-            return Err("the place of 5 depends on K".to_string());
-        }
-        if self.0.transient_windows > MAX_COUNT {
-            return Ok(Answer::refusal(by_run));
-        }
         let built = lyapunov_sys::build_config(&self.0);
-        if built.number != by_run.number {
+        let by_warm_up = by_run == Refusal::at(5, 2);
+        if built != if by_warm_up { Refusal::NONE } else { by_run } {
             return Err(format!("builder: {built:?}, run: {by_run:?}"));
         }
-        Ok(Answer::refusal(built))
+        Ok(Answer::refusal(by_run))
     }
 }
 

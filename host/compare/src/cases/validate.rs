@@ -1,9 +1,10 @@
 //! The tests of a run that do not look at its outputs.
 
-use super::{settings, Called, Case, Run};
+use super::{Called, Case, Run};
 use crate::lent::Lent;
 use crate::line::Fields;
 use crate::values::Answer;
+use input::Refusal;
 use lyapunov_sys::Arguments;
 use oracle::Source;
 
@@ -16,17 +17,17 @@ impl Case for Validate {
     const ANSWER: &'static [&'static str] = &["num", "place"];
 
     fn read(fields: &mut Fields) -> Result<Self, String> {
-        Run::read(fields).map(Self)
+        Run::read_input(fields).map(Self)
     }
 
     fn written(&self) -> String {
-        self.0.written()
+        self.0.written_input()
     }
 
     fn model(&self) -> Answer {
         let run = &self.0;
         let tested = model::validate(&run.circuit.system, run.time, &run.state, &run.settings);
-        settings::refused(&run.settings, tested.err())
+        Answer::refusal(tested.err().unwrap_or(Refusal::NONE))
     }
 
     fn source(&self, source: &dyn Source) -> Option<Answer> {

@@ -4,7 +4,7 @@
 use crate::bytes::{self, Bytes};
 use crate::cases::{Build, Called, Draw, Log, Orth, Rates, Root, Run, Step, Validate};
 use crate::circuit::{Circuit, KINDS, LINEAR, RING};
-use crate::generate::seeds;
+use crate::generate::{counts, seeds};
 use input::{Settings, MAX_COUNT};
 use lyapunov_sys::Arguments;
 use std::collections::BTreeMap;
@@ -81,7 +81,7 @@ fn one(bytes: &mut Bytes) -> (&'static str, Result<u64, String>) {
             let state = seeds::state_before(bytes.number());
             ("splitmix64_symmetric_unit", draw(state))
         }
-        5 => ("build_config", compared(&Build(built(bytes)))),
+        5 => ("build_config", compared(&Build(settings(bytes)))),
         6 => ("kaplan_yorke_dimension", compared(&rates(bytes))),
         7 => ("kolmogorov_sinai_entropy", compared(&rates(bytes))),
         8 | 9 => ("modified_gram_schmidt", compared(&orth(bytes))),
@@ -153,15 +153,18 @@ fn size(bytes: &mut Bytes, kind: u64) -> (usize, usize) {
 fn settings(bytes: &mut Bytes) -> Settings {
     let (top_k, step_size) = (bytes.size(), bytes.step_size());
     let mut settings = Settings::new(top_k, step_size, bytes.count(), bytes.count());
-    settings.transient_windows = bytes.below(4) as u64;
+    settings.transient_windows = match bytes.below(40) {
+        0 => MAX_COUNT + 1,
+        other => other as u64 % 4,
+    };
     settings.seed = bytes.number();
-    settings
-}
-
-/// Settings as they are built.
-fn built(bytes: &mut Bytes) -> Settings {
-    let mut settings = settings(bytes);
-    settings.transient_windows = 0;
+    // Counts at the limit make a long run unless steps or windows are over: `estimate_largest` has
+    // no warm-up windows.
+    let combined = counts::combined(settings, bytes.byte().into(), u64::MAX);
+    let is_refused = combined.steps_per_window.max(combined.windows) > MAX_COUNT;
+    if is_refused && bytes.below(16) == 0 {
+        return combined;
+    }
     settings
 }
 
@@ -214,9 +217,6 @@ fn run(bytes: &mut Bytes, of: fn(Run) -> Run) -> Run {
     if bytes.below(4) < 3 {
         settings.top_k = 1 + bytes.below(d.clamp(1, 16));
     }
-    if bytes.below(40) == 0 {
-        settings.transient_windows = MAX_COUNT + 1;
-    }
     let time = bytes.float();
     let length = bytes.length(d);
     let state = bytes.floats(length);
@@ -225,4 +225,32 @@ fn run(bytes: &mut Bytes, of: fn(Run) -> Run) -> Run {
     run.exponents = bytes.length(run.settings.top_k);
     run.final_state = bytes.length(d);
     run
+}
+
+#[cfg(test)]
+mod tests {
+    use super::*;
+    use std::collections::BTreeSet;
+
+    /// The labels of the counts that are over in what `of` reads from random bytes.
+    fn over(of: impl Fn(&mut Bytes) -> Settings) -> BTreeSet<&'static str> {
+        let mut seed = 1;
+        let labels = (0..20_000).map(|_| {
+            let (bytes, next) = bytes::random(seed, MOST_BYTES);
+            seed = next;
+            counts::label(&of(&mut Bytes::of(&bytes)))
+        });
+        labels.collect()
+    }
+
+    #[test]
+    fn every_combination_of_counts_is_called() {
+        let all = BTreeSet::from(counts::OVER);
+        assert_eq!(over(settings), all);
+        assert_eq!(over(|bytes| run(bytes, |run| run).settings), all);
+        // The run for the largest exponent has no warm-up windows.
+        let largest = over(|bytes| run(bytes, Run::largest).settings);
+        let no_warm_up = counts::OVER[..4].iter().copied();
+        assert_eq!(largest, no_warm_up.collect());
+    }
 }

@@ -1,13 +1,13 @@
 //! The fixed list of answers, which is replayed where the source is not at hand.
 
 use super::many::{run_label, step_label, unlabelled};
-use crate::cases::{Build, Case, Draw, Log, Orth, Program, Rates, Root, Run, Step};
+use crate::cases::{Build, Case, Draw, Log, Orth, Program, Rates, Root, Run, Step, Validate};
 use crate::circuit::{Systems, RING};
-use crate::generate::{self, edges, patterns, seeds};
+use crate::generate::{self, counts, edges, patterns, seeds};
 use crate::random::Random;
 use crate::tally::Tally;
 use crate::values::Answer;
-use input::DEFAULT_SEED;
+use input::{Settings, DEFAULT_SEED};
 use oracle::{Source, NOT_AVAILABLE};
 
 const HEADER: &str = "\
@@ -23,14 +23,20 @@ const HEADER: &str = "\
 # stands what is handed in, right of it what comes back. A float is the 16 hexadecimal digits of
 # its bits, and so are seeds, states and outputs of the generator; counts are decimal. Lists are
 # parted by commas, - is the empty list or no value, and . is an entry of an output that keeps
-# what it held. An answered NaN stands for every NaN. place=0/2 lists the places that a refusal
-# may have.
+# what it held. An answered NaN stands for every NaN.
 ";
 
 /// What stands before the cases of request a.
 const RINGS: &str = "\
 # Rings of cells, lorenz96:N with N cells and the forcing as its parameter: document 02's request a.
 # by=model: the source has no 25.
+";
+
+/// What stands before the cases of request b.
+const COUNTS: &str = "\
+# Counts at their limit and over it: document 02's request b. The place of 5 is the first count that
+# is over, in the order 0 steps, 1 windows, 2 warm-up. A validate case is the tests of a run that do
+# not look at its outputs.
 ";
 
 /// Lines longer than this are not taken from the random inputs.
@@ -50,6 +56,7 @@ pub fn write_list() -> Result<String, String> {
     list.runs()?;
     list.settings_and_rates()?;
     list.rings()?;
+    list.counts()?;
     println!("{} cases, {} bytes", list.cases, list.text.len());
     Ok(list.text)
 }
@@ -231,6 +238,35 @@ impl List {
         self.random = random.with(Systems::Of(RING));
         self.add_random::<Step>(5, 2_000, generate::step::step, step_label)?;
         self.add_random::<Run>(5, 4_000, generate::runs::run, run_label)
+    }
+
+    /// Where no count is over, 6 refuses a run, so that none is long.
+    fn counts(&mut self) -> Result<(), String> {
+        self.text.push_str(COUNTS);
+        let at_limit = counts::at_limit();
+        let run = |settings: &Settings| {
+            let is_over = counts::label(settings) != counts::OVER[0];
+            counts::run_at_rest(*settings, if is_over { 0.0 } else { f64::NAN })
+        };
+        for (settings, remark) in &at_limit {
+            self.add(&Build(*settings), remark)?;
+        }
+        for (settings, remark) in &at_limit {
+            self.add(&Validate(run(settings)), remark)?;
+        }
+        let accepted = Validate(counts::run_at_rest(at_limit[0].0, 0.0));
+        self.add(&accepted, "at the limit, accepted")?;
+        for (settings, remark) in &at_limit {
+            self.add(&run(settings), remark)?;
+        }
+        // Those of the largest exponent, which has no warm-up windows.
+        for (mut settings, remark) in at_limit {
+            if counts::OVER[1..4].contains(&counts::label(&settings)) {
+                settings.transient_windows = 0;
+                self.add(&run(&settings), &format!("{remark}, no warm-up"))?;
+            }
+        }
+        Ok(())
     }
 }
 

@@ -3,10 +3,11 @@
 use super::{source, Differences, Inputs};
 use crate::cases::{Build, Called, Orth, Rates, Run, Step, Validate};
 use crate::circuit::{Kind, Systems, KINDS, RING};
-use crate::generate;
+use crate::generate::{self, counts};
 use crate::random::Random;
 use crate::tally::{Sizes, Tally, ENOUGH};
 use crate::values::{Answer, Value};
+use input::Settings;
 
 /// What an answer is counted as, beside its refusal's number.
 type Label<C> = fn(&C, &Answer) -> String;
@@ -35,24 +36,26 @@ pub fn rates(inputs: Inputs) -> bool {
 }
 
 pub fn settings(inputs: Inputs) -> bool {
-    let expected = [0, 1, 2, 3, 4, 5].map(|number| (number, ""));
-    let generate = |_, random: &mut Random| Build(generate::settings::any(random));
-    compare::<Build>("settings", inputs, generate, unlabelled, &expected)
+    let mut expected = [0, 1, 2, 3, 4].map(|number| (number, "")).to_vec();
+    expected.extend(by_5(&counts::OVER[1..]));
+    let generate = |index, random: &mut Random| Build(counts::settings(index, random));
+    let label = |build: &Build, answer: &Answer| label_of_5(&build.0, answer).to_string();
+    compare::<Build>("settings", inputs, generate, label, &expected)
 }
 
 pub fn validate(inputs: Inputs) -> bool {
-    let tests = (0..=12).chain([25]);
-    let expected: Vec<(u64, &str)> = tests.map(|number| (number, "")).collect();
-    let generate = |index, random: &mut Random| Validate(generate::runs::run(index, random));
-    compare::<Validate>("validate", inputs, generate, unlabelled, &expected)
+    let mut expected = vec![(0, "")];
+    expected.extend(tests_of_input());
+    let generate = |index, random: &mut Random| Validate(counts::run(index, random));
+    let label = |case: &Validate, answer: &Answer| label_of_5(&case.0.settings, answer).to_string();
+    compare::<Validate>("validate", inputs, generate, label, &expected)
 }
 
 pub fn runs(inputs: Inputs) -> bool {
     if let Some(kind) = inputs.systems.kind() {
         return runs_of(kind, inputs);
     }
-    let tests = (1..=12).chain([25]);
-    let mut expected: Vec<(u64, &str)> = tests.map(|number| (number, "")).collect();
+    let mut expected: Vec<(u64, &str)> = tests_of_input().collect();
     expected.extend(KINDS.iter().map(|kind| (0, kind.label)));
     expected.extend([
         (0, FAINT),
@@ -68,7 +71,7 @@ pub fn runs(inputs: Inputs) -> bool {
     for number in [16, 17, 18] {
         expected.extend([IN_WARM_UP, BEFORE_ROWS, AFTER_ROWS].map(|label| (number, label)));
     }
-    let agree = compare::<Run>("runs", inputs, generate::runs::run, run_label, &expected);
+    let agree = compare::<Run>("runs", inputs, counts::run, label_with_5, &expected);
     let broken = generate::runs::broken_before(inputs.count);
     let pairs = generate::broken_runs::PAIRS;
     let met = broken.min(pairs);
@@ -91,19 +94,33 @@ fn runs_of(kind: &'static Kind, inputs: Inputs) -> bool {
 /// Runs from time 0, by `estimate_largest` and by `estimate_spectrum`. From there the measured time
 /// is finite where the time is, and a first window that is measured at once does not refuse by 18.
 pub fn from_zero(inputs: Inputs) -> bool {
-    let mut expected: Vec<(u64, &str)> = [2, 3, 4, 5, 7, 8, 25, 9, 10, 11, 13, 15]
+    let mut expected: Vec<(u64, &str)> = [2, 3, 4, 7, 8, 25, 9, 10, 11, 13, 15]
         .map(|number| (number, ""))
         .to_vec();
+    expected.extend(by_5(&counts::OVER[1..4]));
     expected.extend(KINDS.iter().map(|kind| (0, kind.label)));
     expected.extend([(0, FAINT), (0, INFINITE_RATE)]);
     expected.extend([14, 16, 17, 18].map(|number| (number, AFTER_ROWS)));
     expected.extend([14, 16, 17].map(|number| (number, BEFORE_ROWS)));
-    let largest = |index, random: &mut Random| generate::runs::run(index, random).largest();
-    let one = compare::<Run>("estimate_largest", inputs, largest, run_label, &expected);
+    let largest = |index, random: &mut Random| counts::run(index, random).largest();
+    let one = compare::<Run>("estimate_largest", inputs, largest, label_with_5, &expected);
     expected.extend([(1, ""), (12, ""), (14, AT_DRAW), (18, BEFORE_ROWS)]);
+    expected.extend(by_5(&counts::OVER[4..]));
     expected.extend([14, 16, 17, 18].map(|number| (number, IN_WARM_UP)));
-    let all = |index, random: &mut Random| generate::runs::run(index, random).at_zero();
-    compare::<Run>("estimate_spectrum", inputs, all, run_label, &expected) && one
+    let all = |index, random: &mut Random| counts::run(index, random).at_zero();
+    compare::<Run>("estimate_spectrum", inputs, all, label_with_5, &expected) && one
+}
+
+/// The refusals that do not look at a run's outputs, 5 with every combination of counts over.
+fn tests_of_input() -> impl Iterator<Item = (u64, &'static str)> {
+    let others = (1..=12).filter(|number| *number != 5).chain([25]);
+    others
+        .map(|number| (number, ""))
+        .chain(by_5(&counts::OVER[1..]))
+}
+
+fn by_5<'a>(labels: &'a [&'static str]) -> impl Iterator<Item = (u64, &'static str)> + 'a {
+    labels.iter().map(|label| (5, *label))
 }
 
 const FAINT: &str = ", a faint direction";
@@ -116,6 +133,19 @@ const AFTER_ROWS: &str = " after a row";
 
 pub fn unlabelled<C>(_: &C, _: &Answer) -> String {
     String::new()
+}
+
+/// Which counts are over, where 5 refuses.
+fn label_of_5(settings: &Settings, answer: &Answer) -> &'static str {
+    match answer.number() {
+        5 => counts::label(settings),
+        _ => "",
+    }
+}
+
+/// Which counts are over, where 5 refuses, and else what `run_label` says.
+fn label_with_5(run: &Run, answer: &Answer) -> String {
+    label_of_5(&run.settings, answer).to_string() + &run_label(run, answer)
 }
 
 /// Which system was moved, where one was.

@@ -1,7 +1,9 @@
 //! Replays a list of cases.
 
 use super::{Differences, PRINTED};
-use crate::cases::{Build, Called, Case, Draw, Log, Orth, Program, Rates, Root, Run, Step};
+use crate::cases::{
+    Build, Called, Case, Draw, Log, Orth, Program, Rates, Root, Run, Step, Validate,
+};
 use crate::line::Line;
 use crate::values::Answer;
 use std::collections::BTreeMap;
@@ -78,6 +80,7 @@ fn replay_line(line: Line, program: Option<&Path>) -> Result<Replayed, String> {
         Run::KIND => replay_case::<Run>(line),
         Rates::KIND => replay_case::<Rates>(line),
         Build::KIND => replay_case::<Build>(line),
+        Validate::KIND => replay_case::<Validate>(line),
         Program::KIND => replay_program(line, program),
         kind => Err(format!("unknown kind {kind}")),
     }

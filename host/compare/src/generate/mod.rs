@@ -2,6 +2,7 @@
 
 pub mod broken_runs;
 pub mod circuits;
+pub mod counts;
 pub mod edges;
 pub mod orth;
 pub mod patterns;

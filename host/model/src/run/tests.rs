@@ -119,15 +119,26 @@ fn outputs_one_short() {
 
 #[test]
 fn counts_over_the_limit() {
-    let over = MAX_COUNT + 1;
-    let mut run = Linear::new(&[0.0], 1, 1, 1.0, 1, over);
-    run.settings.transient_windows = over;
-    run.time = f64::NAN;
-    assert_eq!(run.refusal(), Some(Refusal::at(5, 1)));
-    assert_eq!(counts_over_limit(&run.settings), [1, 2]);
-    run.settings.windows = MAX_COUNT;
-    run.settings.transient_windows = MAX_COUNT;
-    assert_eq!(run.refusal(), Some(Refusal::of(6)));
+    // Steps, windows and warm-up, each at the limit or one above it, and the first that is over.
+    let (at, over) = (16_777_216, 16_777_217);
+    let rows = [
+        ([at, at, at], None),
+        ([at, at, over], Some(2)),
+        ([at, over, at], Some(1)),
+        ([at, over, over], Some(1)),
+        ([over, at, at], Some(0)),
+        ([over, at, over], Some(0)),
+        ([over, over, at], Some(0)),
+        ([over, over, over], Some(0)),
+    ];
+    for ([steps, windows, warm_up], first) in rows {
+        let mut run = Linear::new(&[0.0], 1, 1, 1.0, steps, windows);
+        run.settings.transient_windows = warm_up;
+        run.time = f64::NAN;
+        assert_eq!(first_count_over(&run.settings), first);
+        let refusal = first.map_or(Refusal::of(6), |place| Refusal::at(5, place));
+        assert_eq!(run.refusal(), Some(refusal));
+    }
 }
 
 #[test]

@@ -7,14 +7,20 @@ use Rattle.benettin.proofs.validation.validate_settings.Tie as tie
 
 returns : tie.Need-returns
 returns c =
-    let l = c .before .before in
-    chained _ _ (c .first-refusal2 .ensures) (tested _ (l .before .before .test .ensures) refl)
-    (chained _ _ (c .before .first-refusal .ensures) (l .before .validate-step-size .ensures) (l .validate-limits .ensures))
+    let inner = c .before .before in
+    let limits = inner .before in
+    let nonzero = limits .before in
+    let step-size = nonzero .before in
+    chained _ _ (c .first-refusal3 .ensures) (tested _ (step-size .before .test .ensures) refl)
+    (chained _ _ (c .before .first-refusal2 .ensures) (step-size .validate-step-size .ensures)
+    (chained _ _ (inner .first-refusal .ensures) (nonzero .validate-nonzero .ensures) (limits .validate-limits .ensures)))
 
 pub validate-settings-spec : {M : Type 1} → statement M
 validate-settings-spec =
     tie.close
     (tie.spec
+    (λ c κs. search needs)
+    (λ c κs. search needs)
     (λ c κs. search needs)
     (λ c κs. search needs)
     (λ c κs. search needs)
