@@ -4,7 +4,7 @@ use native.Mathlib.Omega.{arith}
 use mathlib.Core.Path.{_≡_, refl, sym, ap, _∙_}
 use mathlib.Core.List.{List, [], _∷_, _++_, map, append-nil}
 use lib.ListN.{length, take, drop, length-take, drop-of-length-le}
-use lib.Seq.{take-all}
+use lib.Seq.{take-all, take-at}
 use lib.Ieee.{Float}
 use Rattle.stepper.specs.Stepper.{entrywise, stage-points, moved, rk4}
 use Rattle.stepper.specs.Rules.{stage-rule, rule-at}
@@ -81,10 +81,10 @@ module _ (d v : ℕ) (x : List Float) (sized : length x ≡ d) (copied : d ≤ v
 -- ---- an array in memory, into which x is loaded and from which y gets its length back; all 16 places are computed
 
 pub in-memory : {d : ℕ} {h : Float} {x b : List Float} {f₁ f₂ f₃ f₄ : List Float → List Float} {t₂ t₃ t₄ k₁ k₂ k₃ k₄ : List Float} → length x ≡ d → d ≤ 16
-    → take (length x) b ≡ x → take d k₁ ≡ f₁ (take d b) → Point h 16 b 1 (k₁ ∷ []) t₂ → take d k₂ ≡ f₂ (take d t₂) → Point h 16 b 2 (k₂ ∷ k₁ ∷ []) t₃
+    → (z : List Float) → b ≡ x ++ z → take d k₁ ≡ f₁ (take d b) → Point h 16 b 1 (k₁ ∷ []) t₂ → take d k₂ ≡ f₂ (take d t₂) → Point h 16 b 2 (k₂ ∷ k₁ ∷ []) t₃
     → take d k₃ ≡ f₃ (take d t₃) → Point h 16 b 3 (k₃ ∷ k₂ ∷ k₁ ∷ []) t₄ → take d k₄ ≡ f₄ (take d t₄) → Staged d 16 h x b f₁ f₂ f₃ f₄ t₂ t₃ t₄ k₁ k₂ k₃ k₄
-in-memory e l a d₁ p₂ d₂ p₃ d₃ p₄ d₄ =
-    record { within = l; front = rw e at a; derivative₁ = d₁; point₂ = p₂; derivative₂ = d₂; point₃ = p₃; derivative₃ = d₃; point₄ = p₄; derivative₄ = d₄ }
+in-memory {d} {x = x} e l z a d₁ p₂ d₂ p₃ d₃ p₄ d₄ =
+    record { within = l; front = rw a (take-at x z d e); derivative₁ = d₁; point₂ = p₂; derivative₂ = d₂; point₃ = p₃; derivative₃ = d₃; point₄ = p₄; derivative₄ = d₄ }
 
 pub stored-front : (d : ℕ) (x : List Float) → length x ≡ d → (n y : List Float) → y ≡ take (length x) n → y ≡ take d n
 stored-front d x e n y f = rw e at f

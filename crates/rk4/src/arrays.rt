@@ -36,10 +36,10 @@ pub fn copy_front(out: &mut [f64], from: [f64; 16], width: usize)
     }
 }
 
-// A vector into the front of an array.
+// A vector into the front of an array, which stays as it is behind it.
 pub fn load(out: &mut [f64; 16], v: &[f64])
     requires { ⌜ (length (now out) ≡ 16) × (length (now v) ≤ 16) ⌝ }
-    ensures { λ _. ⌜ (length (now (out .exit)) ≡ 16) × (take (length (now (v .entry))) (now (out .exit)) ≡ now (v .entry)) ⌝ }
+    ensures { λ _. ⌜ (length (now (out .exit)) ≡ 16) × (now (out .exit) ≡ now (v .entry) ++ drop (length (now (v .entry))) (now (out .entry))) ⌝ }
 {
     let n = v.len();
     let mut i = 0usize;

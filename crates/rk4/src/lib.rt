@@ -27,8 +27,9 @@ use error::Outcome;
 use system::System;
 
 // The state and every direction, by the body that is fastest. A matrix of more than 8 rows is transposed here, so that only a
-// step that needs it has room for it. A ring reads no columns, so it is lent none. The wide body gets a system made anew and a
-// ring not the matrix, since what is lent on is copied before it is looked at: for `system` a third of a small step.
+// step that needs it has room for it. Neither `system` nor `matrix` is lent on to the wide body: what is lent on is copied before
+// it is looked at, which takes a third of a small step. So the system is made anew there, and a ring is lent no columns, since it
+// reads none. Its arm stands first for speed too (docs/DECISIONS.md, 17).
 fn advance_values(
     system: System,
     matrix: &[f64],

@@ -1,5 +1,5 @@
 -- What a match on a system tells: a linear one has the code's columns, a ring its cells, and any other has a fixed dimension.
-use Prim.Native.Nat.{ℕ, _≤_}
+use Prim.Native.Nat.{_≤_}
 use native.Mathlib.Omega.{arith}
 use mathlib.Core.Path.{_≡_, refl, ap, _∙_}
 use mathlib.Core.Bool.{true}

@@ -2,9 +2,9 @@
 use Prim.Native.Nat.{ℕ, _-_, _≤_}
 use native.Mathlib.Omega.{arith}
 use mathlib.Core.Path.{_≡_, refl, _∙_}
-use mathlib.Core.List.{List}
+use mathlib.Core.List.{List, _++_}
 use borrow.Author.Needs.{needs}
-use lib.ListN.{length, take}
+use lib.ListN.{length, drop}
 use lib.Seq.{take-all}
 use lib.Ieee.{Float}
 use Rattle.rk4.proofs.Copy.{Writing, writing-none, writing-one, writing-two, written}
@@ -24,17 +24,14 @@ loop-again : tie.Need-loop-again Inv-loop μ-loop
 loop-again c = let l = c .before .before .before .loop in (l .inv .0, l .inv .1, writing-two (l .inv .2) _ _ refl refl (omega arith))
 
 -- all of v is written
-ends : (v : List Float) {o X : List Float} {i : ℕ} → length o ≡ 16 → Writing v o (length v) i X → length v ≤ i → (length X ≡ 16) × (take (length v) X ≡ v)
-ends v e w h = (w .same ∙ e, written w h ∙ take-all (length v) v (omega arith))
+ends : (v : List Float) {o X : List Float} {i : ℕ} → length o ≡ 16 → Writing v o (length v) i X → length v ≤ i → (length X ≡ 16) × (X ≡ v ++ drop (length v) o)
+ends v e w h = (w .same ∙ e, written w h ∙ rw (take-all (length v) v (omega arith)))
 
 returns : tie.Need-returns Inv-loop μ-loop
-returns c =
-    let l = c .before .before .before .loop in
-    let v = c .before .before .before .before .args .v .now in
-    ends v (l .inv .0) (writing-one (l .inv .2) _ refl (omega arith)) (omega arith)
+returns c = let I = c .before .before .before .loop .inv in ends _ (I .0) (writing-one (I .2) _ refl (omega arith)) (omega arith)
 
 returns-2 : tie.Need-returns-2 Inv-loop μ-loop
-returns-2 c = let l = c .before .before .loop in ends (c .before .before .before .args .v .now) (l .inv .0) (l .inv .2) (omega arith)
+returns-2 c = let I = c .before .before .loop .inv in ends _ (I .0) (I .2) (omega arith)
 
 pub load-spec : {M : Type 1} → statement M
 load-spec =

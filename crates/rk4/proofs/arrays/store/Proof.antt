@@ -1,11 +1,10 @@
 -- `rk4::arrays::store` meets its contract. The loop's invariant: the first i entries are written.
 use Prim.Native.Nat.{ℕ, _-_, _≤_}
 use native.Mathlib.Omega.{arith}
-use mathlib.Core.Path.{_≡_, refl, sym, _∙_}
-use mathlib.Core.List.{List}
+use mathlib.Core.Path.{_≡_, refl, _∙_}
+use mathlib.Core.List.{List, append-nil}
 use borrow.Author.Needs.{needs}
-use lib.ListN.{length, take, length-set}
-use lib.Seq.{take-all}
+use lib.ListN.{length, take, length-set, drop-of-length-le}
 use lib.Ieee.{Float}
 use Rattle.rk4.proofs.Copy.{Writing, writing-none, writing-one, writing-two, written}
 use Rattle.rk4.proofs.arrays.store.Statement.{statement}
@@ -25,7 +24,7 @@ loop-again c = writing-two (c .before .loop .inv) _ _ refl refl (omega arith)
 
 -- all of o is written over
 ends : (o : List Float) {L X : List Float} {i : ℕ} → Writing L o (length o) i X → length o ≤ i → X ≡ take (length o) L
-ends o {X = X} w h = sym (take-all (length o) X (omega (arith, w .same))) ∙ written w h
+ends o {L} w h = let q : length o ≤ length o = omega arith in written w h ∙ rw (drop-of-length-le o q) (append-nil (take (length o) L))
 
 returns : tie.Need-returns Inv-loop μ-loop
 returns c = let w = c .before .before .loop .inv in ends _ (writing-one w _ refl (omega arith)) (omega arith)

@@ -42,7 +42,7 @@ returns c m e =
     let d = dim (ar .system) in
     let g = tangent (ar .system) m in
     let stages : Staged d 16 (ar .h) (ar .t .now) _ (g (take d (ar .x1 .now))) (g (take d (ar .x2 .now))) (g (take d (ar .x3 .now))) (g (take d (ar .x4 .now))) _ _ _ _ _ _ _ =
-    in-memory (s .pre .0) (s .pre .1) (loaded t₂ .load .ensures .1)
+    in-memory (s .pre .0) (s .pre .1) _ (loaded t₂ .load .ensures .1)
     (k₁ .jacobian-vector-product .ensures .1 m e) (t₂ .stage-point .ensures)
     (k₂ .jacobian-vector-product2 .ensures .1 m e) (t₃ .stage-point2 .ensures)
     (k₃ .jacobian-vector-product3 .ensures .1 m e) (t₄ .stage-point3 .ensures)

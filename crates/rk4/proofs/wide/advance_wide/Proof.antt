@@ -52,7 +52,7 @@ returns c m e =
     let d = dim (ar .system) in
     let f = field (ar .system) m in
     let stages : Staged d 16 (ar .h) (ar .state .now) _ f f f f _ _ _ _ _ _ _ =
-    in-memory (s .pre .0) (s .pre .1) (loaded x₂ .load .ensures .1)
+    in-memory (s .pre .0) (s .pre .1) _ (loaded x₂ .load .ensures .1)
     (k₁ .vector-field .ensures .1 m e) (x₂ .stage-point .ensures)
     (k₂ .vector-field2 .ensures .1 m e) (x₃ .stage-point2 .ensures)
     (k₃ .vector-field3 .ensures .1 m e) (x₄ .stage-point3 .ensures)
