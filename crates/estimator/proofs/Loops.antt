@@ -4,14 +4,15 @@ use native.Mathlib.Nat.{sub-zero, suc-mul}
 use native.Mathlib.Numerals.{add-one}
 use native.Mathlib.Omega.{arith}
 use mathlib.Core.Path.{_≡_, refl, sym, ap, _∙_}
-use mathlib.Core.List.{List, _++_, append-assoc}
+use mathlib.Core.List.{List, _++_}
 use borrow.Rule.Slice.PartMut as Put
 use borrow.Rule.Slice.PartMut.{putMid}
-use lib.ListN.{length, take, drop, length-drop}
-use lib.Seq.{sets, sets-eq, length-sets, length-take-le, drop-drop}
+use lib.ListN.{length, take, drop}
+use lib.Seq.{sets, length-sets}
 use lib.Ieee.{Float}
 use Rattle.error.specs.declared.LyapunovError.{LyapunovError}
 use Rattle.error.specs.declared.Outcome.the-variants.{Accepted, Refused}
+use Rattle.floats.proofs.Parts.{put-is}
 use Rattle.floats.proofs.Sets.{sets-append}
 use Rattle.floats.proofs.Vector.{vector-fits}
 use Rattle.system.specs.System.{dim}
@@ -67,19 +68,6 @@ module _ {S : System} {m : List Float} {k : ℕ} {h : Float} {n W : ℕ} {H₀ H
       go : (D : ℕ) (o : Status) → (o then warm-up (dynamics S m h D) n (W - w)) ≡ o
       go D (ok c) = let z : W - w ≡ 0 = omega arith in rw z
       go D (refused r) = refl
-
--- ---- a row within the slice of rows
-
--- a part of width entries from a, put back
-pub put-is : (rows : List Float) (a width : ℕ) (new : List Float) → a + width ≤ length rows → length new ≡ width → putMid a (a + width - a) rows new ≡ sets rows a new
-put-is rows a width new h g =
-    let z : a + width - a ≡ width = omega arith in
-    rw (z, drop-drop width a rows, ← g) (sym (append-assoc (take a rows) new (drop (a + length new) rows)) ∙ sym (sets-eq new rows a (omega arith)))
-
-pub part-many : (rows : List Float) (a width : ℕ) → a + width ≤ length rows → length (take (a + width - a) (drop a rows)) ≡ width
-part-many rows a width h =
-    let z : a + width - a ≡ width = omega arith in
-    rw z (length-take-le width (drop a rows) (rw length-drop (omega arith)))
 
 -- ---- the measured windows
 

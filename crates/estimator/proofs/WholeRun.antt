@@ -1,26 +1,30 @@
 -- The whole run: where it stands after its windows, its end, and what the tests decide.
-use Prim.Native.Nat.{ℕ, _*_, _≤_}
+use Prim.Native.Nat.{ℕ, _+_, _*_, _≤_}
 use native.Mathlib.Nat.{mul-le-mul-right, mul-le-mul-left, le-trans}
 use native.Mathlib.Omega.{arith}
-use mathlib.Core.Path.{_≡_, refl, ap, _∙_}
+use mathlib.Core.Path.{_≡_, refl, sym, ap, _∙_}
 use mathlib.Core.List.{List, _++_}
 use mathlib.Core.Option.{Option, none, some}
 use lib.ListN.{length, take}
 use lib.Seq.{sets, take-append-seam}
 use lib.Ieee.{Float}
-use Rattle.error.specs.Refusal.{refusal}
+use Rattle.error.specs.Refusal.{refusal, reported}
 use Rattle.error.specs.Tests.{first-failing}
 use Rattle.error.specs.declared.LyapunovError.{LyapunovError}
 use Rattle.error.specs.declared.Refusal.{Refusal}
 use Rattle.floats.specs.Arithmetic.{_⊗_}
 use Rattle.system.specs.System.{dim}
-use Rattle.benettin.specs.Run.{Dynamics, Course, begin, warmed-up, course, start-of, course-of, as-float, answer, run-tests, run-past, run}
-use Rattle.benettin.specs.Estimate.{Input, dynamics, problem, estimate}
+use Rattle.system.specs.declared.System.{System}
+use Rattle.benettin.specs.Run.{Dynamics, Course, ok, refused, refused-at, begin, warmed-up, measured-from, course, start-of, course-of, as-float, answer, run-tests, run-past, run}
+use Rattle.benettin.specs.Estimate.{Input, limit, dynamics, problem, estimate}
 use Rattle.benettin.specs.Outputs.{Estimated, estimated, outputs-from, outputs, observed, lengths-of, flat-rows}
 use Rattle.benettin.specs.declared.SpectrumEstimate.{SpectrumEstimate}
 use Rattle.benettin.proofs.Reading.{none-faint}
-use Rattle.progress.specs.Progress.{Held, status, refused-estimate}
-use Rattle.progress.specs.UnderWay.{Begun, WarmedUp, MeasuredWindows, Ended, Recorded, recorded, written}
+use Rattle.progress.specs.Progress.{Held, held, run-state, status, refused-estimate}
+use Rattle.progress.specs.declared.Progress.{Progress}
+use Rattle.progress.specs.UnderWay.{Bounded, Begun, WarmedUp, MeasuredWindows, Ended, Recorded, recorded, written}
+use Rattle.estimator.specs.Course.{Completed, RunDone, StandsAt, Ran}
+use Rattle.estimator.specs.declared.estimate.RunEnd.{RunEnd}
 
 -- ---- where a run stands after its windows, and its end, once the tests are passed
 
@@ -33,19 +37,53 @@ ended-is M d k W a H rows {rows′} T es fs es′ fs′ r e E =
     let c : status d k H ≡ T .end = ap (λ (y : Recorded). y .end) e in
     rw (x, ← c) (E M d (H .tangents) (H .norms) rows a (T .rows) refl)
 
-module _ (i : Input) (K : ℕ) {H₁ H₂ H₃ : Held} {rows rows′ : List Float} (d : length (i .state) ≡ dim (i .system)) (s : H₁ .state ≡ i .state) (B : Begun K (i .step-size) (i .steps) (i .time) (i .seed) H₁)
-    (U : WarmedUp (i .system) (i .matrix) K (i .step-size) (i .steps) (i .warm-up) H₁ H₂) (X : MeasuredWindows (i .system) (i .matrix) K (i .step-size) (i .steps) (i .windows) H₂ rows H₃ rows′) where
-  pub course-is : recorded rows′ (status (dim (i .system)) K H₃) ≡ written rows 0 (course-of (problem i) K)
-  unfolding problem dynamics course warmed-up
-  course-is =
-      let P = problem i in
-      let b : status (dim (i .system)) K H₁ ≡ begin (P .dynamics) (start-of P K) = B .status (i .system) (i .matrix) (ap length s ∙ d) ∙ rw s in
-      X .rows-left ∙ rw (U .status (i .steps), b)
+-- measured windows and the end complete a run under way
+pub completed-is : {S : System} {m : List Float} {k : ℕ} {h : Float} {n later : ℕ} {H H′ : Held} {rows rows′ : List Float} (total : ℕ) (es fs es′ fs′ : List Float) (r : SpectrumEstimate) → MeasuredWindows S m k h n later H rows H′ rows′
+    → Ended k (h ⊗ as-float n) total (H′ .state) (H′ .progress) es fs r es′ fs′
+    → Completed S m k h n later total H rows es fs (record { estimate = r; progress = H′ .progress }) H′ rows′ es′ fs′
+unfolding dynamics
+completed-is {S} {m} {k} {h} {n} {later} {H} {H′} {rows} total es fs es′ fs′ r X E =
+    let M = dynamics S m h n in
+    record { course = X .rows-left; answered = ended-is M (dim S) k total 0 H′ rows (measured-from M n later (status (dim S) k H)) es fs es′ fs′ r (X .rows-left) E; bounded = X .bounded }
 
-  pub run-is : (es fs es′ fs′ : List Float) (r : SpectrumEstimate) → Ended K (i .step-size ⊗ as-float (i .steps)) (i .windows) (H₃ .state) (H₃ .progress) es fs r es′ fs′
-      → observed r rows′ es′ fs′ ≡ outputs (i .windows) rows es fs (run-past none (problem i) K)
-  unfolding run-past problem dynamics
-  run-is es fs es′ fs′ r E = ended-is (problem i .dynamics) (dim (i .system)) K (i .windows) 0 H₃ rows (course-of (problem i) K) es fs es′ fs′ r course-is E
+-- the windows behind the warm-up are those of the run
+pub course-is : (i : Input) (K : ℕ) {H₁ H₂ : Held} → length (i .state) ≡ dim (i .system) → H₁ .state ≡ i .state → Begun K (i .step-size) (i .steps) (i .time) (i .seed) H₁
+    → WarmedUp (i .system) (i .matrix) K (i .step-size) (i .steps) (i .warm-up) H₁ H₂
+    → measured-from (dynamics (i .system) (i .matrix) (i .step-size) (i .steps)) (i .steps) (i .windows) (status (dim (i .system)) K H₂) ≡ course-of (problem i) K
+unfolding problem dynamics course warmed-up
+course-is i K {H₁} d s B U =
+    let P = problem i in
+    let b : status (dim (i .system)) K H₁ ≡ begin (P .dynamics) (start-of P K) = B .status (i .system) (i .matrix) (ap length s ∙ d) ∙ rw s in
+    rw (U .status (i .steps), b)
+
+-- what completes such a course is the run
+pub run-done : (i : Input) (K : ℕ) {H H′ : Held} {rows es fs rows′ es′ fs′ : List Float} {r : RunEnd} → (let M = dynamics (i .system) (i .matrix) (i .step-size) (i .steps) in measured-from M (i .steps) (i .windows) (status (dim (i .system)) K H) ≡ course-of (problem i) K)
+    → Completed (i .system) (i .matrix) K (i .step-size) (i .steps) (i .windows) (i .windows) H rows es fs r H′ rows′ es′ fs′ → Bounded K (limit + limit) limit (H′ .progress)
+    → RunDone i K rows es fs r H′ rows′ es′ fs′
+unfolding run-past problem dynamics
+run-done i K {rows = rows} {es = es} {fs = fs} e X b =
+    let M = dynamics (i .system) (i .matrix) (i .step-size) (i .steps) in
+    record {
+      course = X .course ∙ ap (written rows 0) e;
+      answered = X .answered ∙ ap (λ (T : Course). outputs (i .windows) rows es fs (answer M (i .windows) K (T .rows) (T .end))) e;
+      bounded = b;
+    }
+
+-- where a run that is not refused stands
+module _ (i : Input) (K : ℕ) {H : Held} {rows es fs rows′ es′ fs′ : List Float} {r : RunEnd} (X : RunDone i K rows es fs r H rows′ es′ fs′) where
+  stands-by : (o : Option Refusal) → reported (H .progress .outcome) ≡ o → none ≡ outputs (i .windows) rows es fs (run-past none (problem i) K) .refusal → course-of (problem i) K .end ≡ ok (run-state (dim (i .system)) K H)
+  unfolding run-past answer outputs-from
+  stands-by none e h = sym (ap (λ (y : Recorded). y .end) (X .course)) ∙ rw e
+  stands-by (some q) e h =
+      let z : course-of (problem i) K .end ≡ refused (refused-at (q .number) (q .place) (run-state (dim (i .system)) K H)) = sym (ap (λ (y : Recorded). y .end) (X .course)) ∙ rw e in
+      let y : _≡_ {A = ℕ} 0 1 = no-refusal (rw z at h) in
+      absurd (omega (arith, y))
+    where
+      no-refusal : {a : Refusal} → none ≡ some a → _≡_ {A = ℕ} 0 1
+      no-refusal g = let y : _≡_ {A = ℕ} 0 1 = cc in y
+
+  pub stands : reported (r .estimate .outcome) ≡ none → StandsAt i K H
+  stands h = record { end = stands-by (reported (H .progress .outcome)) refl (sym h ∙ ap (λ (x : Estimated). x .refusal) (X .answered)); bounded = X .bounded }
 
 -- ---- what the tests decide
 
@@ -57,13 +95,21 @@ module _ (i : Input) (K : ℕ) (rows es fs : List Float) where
   unfolding outputs-from run-past flat-rows
   refused-past o ε e = rw (← e, none-faint K)
 
-  pub refused-by-tests : (ε : LyapunovError) (r : SpectrumEstimate) → r ≡ refused-estimate ε 0 0 → some (refusal ε) ≡ tests-of → observed r rows es fs ≡ estimated i K rows es fs
+  refused-by-tests : (ε : LyapunovError) (r : SpectrumEstimate) → r ≡ refused-estimate ε 0 0 → some (refusal ε) ≡ tests-of → observed r rows es fs ≡ estimated i K rows es fs
   unfolding estimated estimate run
   refused-by-tests ε r e h = ap (λ (z : SpectrumEstimate). observed z rows es fs) e ∙ refused-past tests-of ε h
 
-  pub run-by-tests : (X : Estimated) → none ≡ tests-of → X ≡ outputs (i .windows) rows es fs (run-past none (problem i) K) → X ≡ estimated i K rows es fs
+  run-by-tests : (X : Estimated) → none ≡ tests-of → X ≡ outputs (i .windows) rows es fs (run-past none (problem i) K) → X ≡ estimated i K rows es fs
   unfolding estimated estimate run
   run-by-tests X a b = b ∙ rw (← a)
+
+  pub ran-refused : (ε : LyapunovError) {p : Progress} {moving tangents norms : List Float} (r : SpectrumEstimate) → r ≡ refused-estimate ε 0 0 → some (refusal ε) ≡ tests-of → Ran i K rows es fs (record { estimate = r; progress = p }) moving tangents norms rows es fs
+  ran-refused ε r e h =
+      record { meets = refused-by-tests ε r e h; stands = λ n. let y : none ≡ some (refusal ε) = sym n ∙ ap (λ (z : SpectrumEstimate). reported (z .outcome)) e in let z : _≡_ {A = ℕ} 0 1 = cc in absurd (omega (arith, z)) }
+
+  pub ran-done : {x t ns rows′ es′ fs′ : List Float} {r : RunEnd} (moving tangents : List Float) → none ≡ tests-of → RunDone i K rows es fs r (held x t ns (r .progress)) rows′ es′ fs′
+      → take (length (i .state)) moving ≡ x → take (K * length (i .state)) tangents ≡ t → Ran i K rows es fs r moving tangents ns rows′ es′ fs′
+  ran-done moving tangents h X a b = record { meets = run-by-tests _ h (X .answered); stands = λ n. rw (a, b) (stands i K X n) }
 
 -- ---- the state and the directions, at the front of their arrays
 

@@ -1,18 +1,66 @@
-// The entry points: a run's tests, then its begin, its windows and its end.
+// The entry points: a run's tests, then its begin, its windows and its end. `complete` and `run_in` are for other crates of ours,
+// and have a `requires`.
 ghost use Prim.Native.Nat.{_*_};
 ghost use mathlib.Core.Path.{_≡_};
-ghost use mathlib.Core.Option.{none};
 ghost use lib.ListN.{length};
 ghost use Rattle.floats.specs.Arithmetic.{zero⁺};
-ghost use Rattle.benettin.specs.Run as Run;
 ghost use Rattle.benettin.specs.Estimate as Estimate;
 ghost use Rattle.benettin.specs.Outputs as Outputs;
 ghost use Rattle.benettin.specs.Validation as Validation;
+ghost use Rattle.progress.specs.Progress.{held};
+ghost use Rattle.estimator.specs.Course as Course;
 use crate::course;
 use benettin::BenettinConfig;
 use benettin::SpectrumEstimate;
 use error::Outcome;
+use progress::Progress;
 use system::System;
+
+// What a run comes to: its answer, and what it carries on.
+pub struct RunEnd {
+    pub estimate: SpectrumEstimate,
+    pub progress: Progress,
+}
+
+// The measured windows of the settings, the last of `total`, from where a run stands, and its end.
+pub fn complete(
+    system: System,
+    matrix: &[f64],
+    state: &mut [f64],
+    tangents: &mut [f64],
+    norms: &mut [f64],
+    rows: &mut [f64],
+    exponents: &mut [f64],
+    final_state: &mut [f64],
+    config: BenettinConfig,
+    total: u64,
+    from: Progress,
+) -> RunEnd
+    requires { ⌜ Course.Completes system (now matrix) (config .«top_k») (config .«step_size») (config .«steps_per_window») (config .windows) total (held (now state) (now tangents) (now norms) from)
+        (now rows) (now exponents) (now «final_state») ⌝ }
+    ensures { λ r. ⌜ Course.Completed system (now (matrix .entry)) (config .«top_k») (config .«step_size») (config .«steps_per_window») (config .windows) total
+        (held (now (state .entry)) (now (tangents .entry)) (now (norms .entry)) from) (now (rows .entry)) (now (exponents .entry)) (now («final_state» .entry)) r
+        (held (now (state .exit)) (now (tangents .exit)) (now (norms .exit)) (r .progress)) (now (rows .exit)) (now (exponents .exit)) (now («final_state» .exit)) ⌝ }
+{
+    let k = config.top_k;
+    let h = config.step_size;
+    let n = config.steps_per_window;
+    let progress = course::measure(
+        system,
+        matrix,
+        state,
+        tangents,
+        norms,
+        rows,
+        k,
+        h,
+        n,
+        config.windows,
+        from,
+    );
+    let estimate = progress::end(state, exponents, final_state, k, h, n, total, progress);
+    RunEnd { estimate, progress }
+}
 
 // The run once the tests are passed.
 fn run(
@@ -21,48 +69,97 @@ fn run(
     time: f64,
     state: &mut [f64],
     tangents: &mut [f64],
+    norms: &mut [f64],
     rows: &mut [f64],
     exponents: &mut [f64],
     final_state: &mut [f64],
     config: BenettinConfig,
-) -> SpectrumEstimate
+) -> RunEnd
     requires { ⌜ Validation.Ready (config .windows) (Estimate.input system (now matrix) time (now state) config) (config .«top_k») (Outputs.lengths-of (now rows) (now exponents) (now «final_state»))
-        × (length (now tangents) ≡ config .«top_k» * length (now state)) ⌝ }
-    ensures { λ r. ⌜ Outputs.observed r (now (rows .exit)) (now (exponents .exit)) (now («final_state» .exit))
-        ≡ Outputs.outputs (config .windows) (now (rows .entry)) (now (exponents .entry)) (now («final_state» .entry))
-        (Run.run-past none (Estimate.problem (Estimate.input system (now (matrix .entry)) time (now (state .entry)) config)) (config .«top_k»)) ⌝ }
+        × (length (now tangents) ≡ config .«top_k» * length (now state)) × (length (now norms) ≡ 32) ⌝ }
+    ensures { λ r. ⌜ Course.RunDone (Estimate.input system (now (matrix .entry)) time (now (state .entry)) config) (config .«top_k») (now (rows .entry)) (now (exponents .entry)) (now («final_state» .entry)) r
+        (held (now (state .exit)) (now (tangents .exit)) (now (norms .exit)) (r .progress)) (now (rows .exit)) (now (exponents .exit)) (now («final_state» .exit)) ⌝ }
 {
     let k = config.top_k;
     let h = config.step_size;
     let n = config.steps_per_window;
-    let mut norms = [0.0; 32];
-    let begun = progress::begin(state, tangents, &mut norms, k, h, n, time, config.seed);
+    let begun = progress::begin(state, tangents, norms, k, h, n, time, config.seed);
     let ready = course::warm_up(
         system,
         matrix,
         state,
         tangents,
-        &mut norms,
+        norms,
         k,
         h,
         n,
         config.transient_windows,
         begun,
     );
-    let done = course::measure(
+    complete(
         system,
         matrix,
         state,
         tangents,
-        &mut norms,
+        norms,
         rows,
-        k,
-        h,
-        n,
+        exponents,
+        final_state,
+        config,
         config.windows,
         ready,
-    );
-    progress::end(state, exponents, final_state, k, h, n, config.windows, done)
+    )
+}
+
+// A run with its working memory lent, so that a caller has what it comes to: room for 16 entries of the state, 256 of the
+// directions and 32 of their logarithms and squared lengths.
+pub fn run_in(
+    system: System,
+    matrix: &[f64],
+    time: f64,
+    state: &[f64],
+    config: BenettinConfig,
+    moving: &mut [f64],
+    tangents: &mut [f64],
+    norms: &mut [f64],
+    rows: &mut [f64],
+    exponents: &mut [f64],
+    final_state: &mut [f64],
+) -> RunEnd
+    requires { ⌜ (length (now moving) ≡ 16) × (length (now tangents) ≡ 256) × (length (now norms) ≡ 32) ⌝ }
+    ensures { λ r. ⌜ Course.Ran (Estimate.input system (now (matrix .entry)) time (now (state .entry)) config) (config .«top_k») (now (rows .entry)) (now (exponents .entry)) (now («final_state» .entry)) r
+        (now (moving .exit)) (now (tangents .exit)) (now (norms .exit)) (now (rows .exit)) (now (exponents .exit)) (now («final_state» .exit)) ⌝ }
+{
+    if let Outcome::Refused(e) = benettin::validation::validate(
+        system,
+        matrix,
+        time,
+        state,
+        config,
+        config.windows,
+        rows.len(),
+        exponents.len(),
+        final_state.len(),
+    ) {
+        let estimate = progress::answer::refused(e, 0, 0);
+        let progress = progress::totals::fresh(Outcome::Refused(e), time);
+        return RunEnd { estimate, progress };
+    }
+    let d = state.len();
+    let kd = config.top_k * d;
+    progress::answer::copy_to(&mut moving[..d], state);
+    run(
+        system,
+        matrix,
+        time,
+        &mut moving[..d],
+        &mut tangents[..kd],
+        norms,
+        rows,
+        exponents,
+        final_state,
+        config,
+    )
 }
 
 // Estimates the leading spectrum from an explicit start time. Rows of 1 + 2 * K floats, one a measured window.
@@ -79,35 +176,23 @@ pub fn estimate_spectrum_at(
     ensures { λ r. ⌜ Outputs.Meets (Estimate.input system (now (matrix .entry)) time (now (state .entry)) config) (config .«top_k»)
         (Outputs.call (now (rows .entry)) (now (exponents .entry)) (now («final_state» .entry)) (Outputs.observed r (now (rows .exit)) (now (exponents .exit)) (now («final_state» .exit)))) ⌝ }
 {
-    if let Outcome::Refused(e) = benettin::validation::validate(
+    let mut moving = [0.0; 16];
+    let mut tangents = [0.0; 256];
+    let mut norms = [0.0; 32];
+    let done = run_in(
         system,
         matrix,
         time,
         state,
         config,
-        config.windows,
-        rows.len(),
-        exponents.len(),
-        final_state.len(),
-    ) {
-        return progress::answer::refused(e, 0, 0);
-    }
-    let d = state.len();
-    let kd = config.top_k * d;
-    let mut moving = [0.0; 16];
-    progress::answer::copy_to(&mut moving[..d], state);
-    let mut tangents = [0.0; 256];
-    run(
-        system,
-        matrix,
-        time,
-        &mut moving[..d],
-        &mut tangents[..kd],
+        &mut moving,
+        &mut tangents,
+        &mut norms,
         rows,
         exponents,
         final_state,
-        config,
-    )
+    );
+    done.estimate
 }
 
 // Estimates the leading spectrum from time zero.

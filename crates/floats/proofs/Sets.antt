@@ -9,7 +9,7 @@ use lib.Seq.{sets, sets-eq, length-sets, take-at, drop-at, take-add, length-take
 use lib.Ieee.{Float, nan}
 use Rattle.floats.specs.Vector.{part}
 
-pub part-length : (a d : ℕ) (l : List Float) → a + d ≤ length l → length (part a d l) ≡ d
+pub part-length {u} : {A : Type u} (a d : ℕ) (l : List A) → a + d ≤ length l → length (part a d l) ≡ d
 part-length a d l h = length-take-le d (drop a l) (rw length-drop (omega arith))
 
 pub part-cons : (a m : ℕ) (l : List Float) → a < length l → part a (suc m) l ≡ getD l a nan ∷ part (suc a) m l
@@ -22,27 +22,27 @@ drop-replicate x (suc k) (suc n) h = let z : suc n - suc k ≡ n - k = omega ari
 
 -- ---- a store, and a run of stores, outside of a part
 
-pub part-set : (b d : ℕ) (l : List Float) (i : ℕ) (x : Float) → b + d ≤ i → part b d (set l i x) ≡ part b d l
+pub part-set {u} : {A : Type u} (b d : ℕ) (l : List A) (i : ℕ) (x : A) → b + d ≤ i → part b d (set l i x) ≡ part b d l
 part-set zero d l i x h = take-set-le d l i x (omega arith)
 part-set (suc b) d [] i x h = refl
 part-set (suc b) d (y ∷ l) zero x h = absurd (omega arith)
 part-set (suc b) d (y ∷ l) (suc i) x h = part-set b d l i x (omega arith)
 
-pub part-before : (b d : ℕ) (l : List Float) (i : ℕ) (w : List Float) → b + d ≤ i → part b d (sets l i w) ≡ part b d l
+pub part-before {u} : {A : Type u} (b d : ℕ) (l : List A) (i : ℕ) (w : List A) → b + d ≤ i → part b d (sets l i w) ≡ part b d l
 part-before b d l i [] h = refl
 part-before b d l i (x ∷ w) h = part-before b d (set l i x) (suc i) w (omega arith) ∙ part-set b d l i x h
 
-pub take-before : (n : ℕ) (l : List Float) (i : ℕ) (w : List Float) → n ≤ i → take n (sets l i w) ≡ take n l
+pub take-before {u} : {A : Type u} (n : ℕ) (l : List A) (i : ℕ) (w : List A) → n ≤ i → take n (sets l i w) ≡ take n l
 take-before n l i [] h = refl
 take-before n l i (x ∷ w) h = take-before n (set l i x) (suc i) w (omega arith) ∙ take-set-le n l i x h
 
-pub drop-behind : (n : ℕ) (l : List Float) (i : ℕ) (w : List Float) → i + length w ≤ n → drop n (sets l i w) ≡ drop n l
+pub drop-behind {u} : {A : Type u} (n : ℕ) (l : List A) (i : ℕ) (w : List A) → i + length w ≤ n → drop n (sets l i w) ≡ drop n l
 drop-behind n l i [] h = refl
 drop-behind n l i (x ∷ w) h = drop-behind n (set l i x) (suc i) w (omega arith) ∙ drop-set-lt n l i x (omega arith)
 
 -- ---- the part that was written
 
-pub part-sets : (l : List Float) (i : ℕ) (w : List Float) (d : ℕ) → length w ≡ d → i + d ≤ length l → part i d (sets l i w) ≡ w
+pub part-sets {u} : {A : Type u} (l : List A) (i : ℕ) (w : List A) (d : ℕ) → length w ≡ d → i + d ≤ length l → part i d (sets l i w) ≡ w
 part-sets l i w d e h =
     rw (sets-eq w l i (omega arith), append-assoc (take i l) w (drop (i + length w) l), drop-at (take i l) (w ++ drop (i + length w) l) i (length-take-le i l (omega arith)))
     (take-at w (drop (i + length w) l) d e)

@@ -24,7 +24,7 @@ dot-from s (x ∷ xs) [] = s
 dot-from s (x ∷ xs) (y ∷ ys) = dot-from (s ⊕ x ⊗ y) xs ys
 
 -- the d entries from place a on
-abbrev pub part : ℕ → ℕ → List Float → List Float
+abbrev pub part {u} : {A : Type u} → ℕ → ℕ → List A → List A
 part a d l = take d (drop a l)
 
 -- n vectors of d entries each

@@ -1,30 +1,25 @@
 -- The end of a run.
 use Prim.Native.Nat.{ℕ}
 use native.Mathlib.Omega.{arith}
-use mathlib.Core.Path.{_≡_, sym, ap, _∙_}
+use mathlib.Core.Path.{_≡_, ap, _∙_}
 use mathlib.Core.List.{List, _++_, map}
-use lib.ListN.{length, take, drop, take-append-drop, length-map}
+use lib.ListN.{length, take, drop, length-map}
 use lib.Seq.{sets, length-take-le}
 use lib.Ieee.{Float}
 use Rattle.error.specs.declared.LyapunovError.{LyapunovError}
 use Rattle.error.specs.declared.Outcome.the-variants.{Accepted, Refused}
 use Rattle.floats.specs.Arithmetic.{_⊗_, _⊘_}
-use Rattle.floats.proofs.Sets.{drop-replicate}
 use Rattle.gram_schmidt.proofs.Finished.{sets-start}
 use Rattle.benettin.specs.Run.{as-float, answer}
-use Rattle.benettin.specs.Outputs.{outputs-from, sixteen}
+use Rattle.benettin.specs.Outputs.{outputs-from}
 use Rattle.benettin.specs.declared.SpectrumEstimate.{SpectrumEstimate}
 use Rattle.benettin.proofs.Reading.{none-faint}
 use Rattle.progress.specs.Progress.{refused-estimate}
 use Rattle.progress.specs.UnderWay.{Ends, Ended}
 use Rattle.progress.specs.declared.Progress.{Progress}
+use Rattle.progress.proofs.Bounds.{faint-is}
 
 module _ {k n W : ℕ} {x es fs : List Float} {p : Progress} (G : Ends k n W x es fs p) (D : Float) where
-  faint-is : p .faint ≡ sixteen (take k (p .faint))
-  faint-is =
-      let z : length (take k (p .faint)) ≡ k = length-take-le k (p .faint) (omega (arith, G .few, G .bounded .counts)) in
-      sym (take-append-drop k (p .faint)) ∙ ap (λ (z : List ℕ). take k (p .faint) ++ z) (G .bounded .behind ∙ drop-replicate {A = ℕ} 0 k 16 (G .few) ∙ rw z)
-
   pub end-refused : (ε : LyapunovError) (r : SpectrumEstimate) → p .outcome ≡ Refused ε → r ≡ refused-estimate ε (p .windows) (p .steps) → Ended k D W x p es fs r es fs
   unfolding outputs-from answer
   end-refused ε r v e M d t norms rows place rs δ = rw (v, e, none-faint k)
@@ -37,4 +32,4 @@ module _ {k n W : ℕ} {x es fs : List Float} {p : Progress} (G : Ends k n W x e
       let A : sets es 0 us ≡ us ++ drop k es = sets-start us es (omega (arith, G .exponents)) ∙ rw l in
       let B : sets fs 0 x ≡ x ++ drop (length x) fs = sets-start x fs (G .state) in
       let eus′ : us ≡ map (λ s. s ⊘ (D ⊗ as-float W)) (take k (p .sums)) = rw (eu, ew) at eus in
-      rw (v, ey, δ, B, ← eus′, A, eu, ew, ← faint-is)
+      rw (v, ey, δ, B, ← eus′, A, eu, ew, ← faint-is (G .few) (G .bounded))

@@ -8,7 +8,7 @@
 mod advance;
 pub mod answer;
 mod draw;
-mod totals;
+pub mod totals;
 
 ghost use Prim.Native.Nat.{_*_, _+_};
 ghost use mathlib.Core.Path.{_≡_};

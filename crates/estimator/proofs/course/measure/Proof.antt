@@ -6,7 +6,8 @@ use mathlib.Core.Path.{_∙_}
 use lib.ListN.{length}
 use Rattle.progress.specs.Progress.{held}
 use Rattle.progress.proofs.Bounds.{fits-up}
-use Rattle.estimator.proofs.Loops.{Measuring, measuring-start, measuring-next, measuring-refused, measuring-end, row-room, part-many}
+use Rattle.floats.proofs.Parts.{part-many}
+use Rattle.estimator.proofs.Loops.{Measuring, measuring-start, measuring-next, measuring-refused, measuring-end, row-room}
 use Rattle.estimator.proofs.course.measure.Statement.{statement}
 use Rattle.estimator.proofs.course.measure.Tie as tie
 
