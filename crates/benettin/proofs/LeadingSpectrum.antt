@@ -27,7 +27,7 @@ use Rattle.gram_schmidt.specs.Orthonormalise.{Basis, orthonormalise}
 use Rattle.benettin.specs.Run.{Dynamics, Problem, RunState, Status, ok, refused, refused-at, tested, stepped, step, steps, unless-collapsed, reorthonormalise, count-faint, Row, Course}
 use Rattle.benettin.specs.Run.{accumulate, row, initial, check-duration, start-of, course-of, RunAnswer, ended, stopped, answer, OutputLengths, run-past, run, count-tests, output-tests, run-tests}
 use Rattle.benettin.specs.LeadingSpectrum.{leading-row, leading, AtOrAbove, RefusedFrom, number, LeadingSpectrum}
-use Rattle.benettin.specs.Estimate.{Input, early-tests, problem, dynamics, estimate}
+use Rattle.benettin.specs.Estimate.{Input, problem-within, problem, dynamics, estimate}
 use Rattle.benettin.proofs.Prefix.{cut-at, cut-none, cut-some, take-replicate, drawn-directions-take, drawn-directions-sized, drawn-directions-length}
 use Rattle.benettin.proofs.Prefix.{first-not-finite-directions, Below, first-not-finite-below, cut, orthonormalise-take, orthonormalise-sized, Whole, orthonormalise-whole}
 use Rattle.benettin.proofs.Simulation.{Relation, Related, Excluded, Similar, SimilarCourses, Invariant, similar-course}
@@ -46,10 +46,6 @@ NoDirection (t ∷ ts) = (t .refusal .number ≢ 14) × (t .refusal .number ≢ 
 -- a direction of `dim` entries has as many after a step
 abbrev pub Keeps : Dynamics → Type 0
 Keeps M = (n : ℕ) (s v : List Float) → length v ≡ M .dim → length (M .advance n s .1 v) ≡ M .dim
-
-pub record Sound (P : Problem) : Type 0 where
-  pub keeps : Keeps (P .dynamics)
-  pub tests : NoDirection (P .tests)
 
 -- what is left of a run under way for the first k directions
 abbrev prefix-of : ℕ → RunState → RunState
@@ -256,17 +252,17 @@ refused-leading : (d k : ℕ) (a : RunAnswer) → RefusedFrom d k a → RefusedF
 refused-leading d k (ended rows x) l = l
 refused-leading d k (stopped rows r f) l = l
 
-module _ (P : Problem) (S : Sound P) (pd : 0 < P .dynamics .dim) (k K : ℕ) (h : k ≤ K) where
+module _ (P : Problem) (S : Keeps (P .dynamics)) (pd : 0 < P .dynamics .dim) (k K : ℕ) (h : k ≤ K) where
   two-courses : SimilarCourses (prefix (P .dynamics .dim) k) (course-of P K) (course-of P k)
   unfolding initial
   two-courses =
-      similar-course (prefix (P .dynamics .dim) k) (P .dynamics) (P .dynamics) (prefix-law (P .dynamics) (S .keeps) pd k) (P .warm-up-steps) (P .warm-up-windows) (P .steps) (P .windows)
+      similar-course (prefix (P .dynamics .dim) k) (P .dynamics) (P .dynamics) (prefix-law (P .dynamics) S pd k) (P .warm-up-steps) (P .warm-up-windows) (P .steps) (P .windows)
       (start-of P K) (start-of P k) (drawn-directions-sized (P .generator) (P .dynamics .dim) K (P .seed), start-prefix P k K h)
 
   one-course : SimilarCourses (low (P .dynamics .dim) k) (course-of P k) (course-of P k)
   unfolding initial
   one-course =
-      similar-course (low (P .dynamics .dim) k) (P .dynamics) (P .dynamics) (low-law (P .dynamics) (S .keeps) pd k) (P .warm-up-steps) (P .warm-up-windows) (P .steps) (P .windows)
+      similar-course (low (P .dynamics .dim) k) (P .dynamics) (P .dynamics) (low-law (P .dynamics) S pd k) (P .warm-up-steps) (P .warm-up-windows) (P .steps) (P .windows)
       (start-of P k) (start-of P k) ((drawn-directions-sized (P .generator) (P .dynamics .dim) k (P .seed), drawn-directions-length (P .generator) (P .dynamics .dim) k (P .seed)), refl)
 
   core : (leading k (run-past none P K) ≡ run-past none P k) ↔ ¬ RefusedFrom (P .dynamics .dim) k (run-past none P K)
@@ -307,13 +303,13 @@ undirected-first (t ∷ ts) h = go (t .passes) (undirected-first ts (h .2))
 abbrev too-short : Problem → ℕ → OutputLengths → List Test
 too-short P K o = output-tests K (P .dynamics .dim) (P .windows) o
 
-abbrev Thirteen : Option Refusal → Type 0
+abbrev pub Thirteen : Option Refusal → Type 0
 Thirteen none = Unit {0}
 Thirteen (some r) = r .number ≡ 13
 
-too-short-is-13 : (P : Problem) (K : ℕ) (o : OutputLengths) → Thirteen (first-failing (too-short P K o))
+pub too-short-is-13 : (K d windows : ℕ) (o : OutputLengths) → Thirteen (first-failing (output-tests K d windows o))
 unfolding first-failing
-too-short-is-13 P K o = go (leb (P .windows * (1 + 2 * K)) (o .rows)) (leb K (o .exponents)) (leb (P .dynamics .dim) (o .state))
+too-short-is-13 K d windows o = go (leb (windows * (1 + 2 * K)) (o .rows)) (leb K (o .exponents)) (leb d (o .state))
   where
     go : (a b c : Bool) → Thirteen (first-failing (test a 13 0 ∷ test b 13 1 ∷ test c 13 2 ∷ []))
     go false b c = refl
@@ -331,7 +327,7 @@ tests-fit P K o h g =
     ∙ first-append (P .tests) (count-tests K (P .dynamics .dim) ++ too-short P K o)
     ∙ ap (λ (s : Option Refusal). first-failing (P .tests) else s) (sym (skip (test (leb K (P .dynamics .dim)) 12 0) (too-short P K o) (le-leb K (P .dynamics .dim) g) refl))
 
-module _ (P : Problem) (S : Sound P) (pd : 0 < P .dynamics .dim) (k K : ℕ) (h : k ≤ K) where
+module _ (P : Problem) (S : Keeps (P .dynamics)) (pd : 0 < P .dynamics .dim) (k K : ℕ) (h : k ≤ K) where
   by-tests : (e s t : Option Refusal) → Undirected e → Thirteen s → Thirteen t
       → number (run-past (e else s) P k) ≢ 13 → number (run-past (e else t) P K) ≢ 13
       → (leading k (run-past (e else t) P K) ≡ run-past (e else s) P k) ↔ ¬ RefusedFrom (P .dynamics .dim) k (run-past (e else t) P K)
@@ -341,28 +337,30 @@ module _ (P : Problem) (S : Sound P) (pd : 0 < P .dynamics .dim) (k K : ℕ) (h 
   by-tests none none (some r) p hs ht ns nt = absurd (nt ht)
   by-tests none none none p hs ht ns nt = core P S pd k K h
 
--- Demand 3 over any dynamics.
-pub leading-run : (P : Problem) → Sound P → (k K : ℕ) (o O : OutputLengths) → 1 ≤ k → k ≤ K → K ≤ P .dynamics .dim
-    → number (run P k o) ≢ 13 → number (run P K O) ≢ 13
-    → (leading k (run P K O) ≡ run P k o) ↔ ¬ RefusedFrom (P .dynamics .dim) k (run P K O)
-unfolding run
-leading-run P S k K o O hk h hK =
+-- Demand 3 over any dynamics, of the run P past the tests of R.
+pub leading-run : (R P : Problem) → NoDirection (R .tests) → Keeps (P .dynamics) → R .dynamics .dim ≡ P .dynamics .dim → (k K : ℕ) (o O : OutputLengths) → 1 ≤ k → k ≤ K → K ≤ P .dynamics .dim
+    → (let a = run-past (first-failing (run-tests R k o)) P k in
+    let A = run-past (first-failing (run-tests R K O)) P K in
+    number a ≢ 13 → number A ≢ 13 → (leading k A ≡ a) ↔ ¬ RefusedFrom (P .dynamics .dim) k A)
+leading-run R P N S d k K o O hk h hK =
     let pd : 0 < P .dynamics .dim = omega arith in
     let pK : 0 < K = omega arith in
-    let kd : k ≤ P .dynamics .dim = omega arith in
-    rw (tests-fit P k o hk kd, tests-fit P K O pK hK)
-    (by-tests P S pd k K h (first-failing (P .tests)) (first-failing (too-short P k o)) (first-failing (too-short P K O))
-    (undirected-first (P .tests) (S .tests)) (too-short-is-13 P k o) (too-short-is-13 P K O))
+    let kd : k ≤ R .dynamics .dim = omega arith in
+    let Kd : K ≤ R .dynamics .dim = omega arith in
+    rw (tests-fit R k o hk kd, tests-fit R K O pK Kd)
+    (by-tests P S pd k K h (first-failing (R .tests)) (first-failing (too-short R k o)) (first-failing (too-short R K O))
+    (undirected-first (R .tests) N) (too-short-is-13 k _ _ o) (too-short-is-13 K _ _ O))
 
 -- ---- document 01's run
 
-early-undirected : (i : Input) → NoDirection (early-tests (i .windows) i)
-early-undirected i = omega arith
+pub problem-undirected : (total : ℕ) (i : Input) → NoDirection (problem-within total i .tests)
+unfolding problem-within
+problem-undirected total i = omega arith
 
-problem-sound : (i : Input) → Sound (problem i)
+pub problem-keeps : (i : Input) → Keeps (problem i .dynamics)
 unfolding problem dynamics
-problem-sound i = record { keeps = λ n x v e. direction-length (i .system) (i .matrix) (i .step-size) x v ∙ e; tests = early-undirected i }
+problem-keeps i n x v e = direction-length (i .system) (i .matrix) (i .step-size) x v ∙ e
 
 pub leading-estimate : LeadingSpectrum
-unfolding estimate problem dynamics
-leading-estimate i k K o O = leading-run (problem i) (problem-sound i) k K o O
+unfolding estimate run problem dynamics
+leading-estimate i k K o O = leading-run (problem i) (problem i) (problem-undirected (i .windows) i) (problem-keeps i) refl k K o O

@@ -15,8 +15,8 @@ use Rattle.system.specs.System.{dim}
 use Rattle.system.specs.declared.System.{System}
 use Rattle.rk4.proofs.Advance.{state-length}
 use Rattle.gram_schmidt.proofs.Finished.{sets-start}
-use Rattle.benettin.specs.Run.{Dynamics, Row, Course, Status, ok, refused, Spectrum, RunRefusal, RunAnswer, ended, stopped, answer, no-faint, OutputLengths, run-tests, course-of, run-past, run}
-use Rattle.benettin.specs.Estimate.{Input, problem, dynamics, estimate}
+use Rattle.benettin.specs.Run.{Dynamics, Problem, Row, Course, Status, ok, refused, Spectrum, RunRefusal, RunAnswer, ended, stopped, answer, no-faint, OutputLengths, run-tests, course-of, run-past, run}
+use Rattle.benettin.specs.Estimate.{Input, problem-within, problem, dynamics, estimate}
 use Rattle.benettin.specs.Outputs.{Call, Meets, lent, lengths-of, estimated, outputs-from, outputs, sixteen, flat-row, flat-rows}
 use Rattle.benettin.specs.Refusals.{Wide}
 use Rattle.benettin.specs.LeadingOutputs.{row-at, rows-from, read}
@@ -46,14 +46,25 @@ abbrev pub Fits : ℕ → ℕ → ℕ → OutputLengths → RunAnswer → Type 0
 Fits d K w o (ended rs x) = EndedFits d K w o rs x
 Fits d K w o (stopped rs r f) = StoppedFits K o rs r f
 
-answer-fits : (M : Dynamics) (d K w : ℕ) (o : OutputLengths) (t : Course) → Rows d K 0 w t → w * (1 + 2 * K) ≤ o .rows → K ≤ o .exponents → d ≤ o .state → Fits d K w o (answer M w K (t .rows) (t .end))
+-- an answer with its finished windows counted from n on
+abbrev pub counted-from : ℕ → RunAnswer → RunAnswer
+counted-from n (ended rs x) = ended rs x
+counted-from n (stopped rs r f) = stopped rs (record { number = r .number; place = r .place; finished = r .finished - n; steps = r .steps }) f
+
+counted-from-0 : (a : RunAnswer) → counted-from 0 a ≡ a
+counted-from-0 (ended rs x) = refl
+counted-from-0 (stopped rs r f) = rw sub-zero
+
+-- the answer for w windows behind n others
+answer-fits : (M : Dynamics) (d K n w m : ℕ) (o : OutputLengths) (t : Course) → Rows d K n w t → w * (1 + 2 * K) ≤ o .rows → K ≤ o .exponents → d ≤ o .state
+    → Fits d K w o (counted-from n (answer M m K (t .rows) (t .end)))
 unfolding answer
-answer-fits M d K w o t R hr he hs = go (t .end) (R .end)
+answer-fits M d K n w m o t R hr he hs = go (t .end) (R .end)
   where
     room : length (t .rows) * (1 + 2 * K) ≤ o .rows
     room = le-trans (mul-le-mul-right (1 + 2 * K) (R .few)) hr
 
-    go : (x : Status) → Holds (λ c. Has d K (0 + length (t .rows)) c × (length (t .rows) ≡ w)) (0 + length (t .rows)) x → Fits d K w o (answer M w K (t .rows) x)
+    go : (x : Status) → Holds (λ c. Has d K (n + length (t .rows)) c × (length (t .rows) ≡ w)) (n + length (t .rows)) x → Fits d K w o (counted-from n (answer M m K (t .rows) x))
     go (ok c) p =
         record {
           wide = R .wide;
@@ -85,26 +96,36 @@ pub dynamics-keeps : (S : System) (m : List Float) (h : Float) (n : ℕ) → Kee
 unfolding dynamics
 dynamics-keeps S m h n s x = state-length S m h x
 
-module _ (i : Input) (K : ℕ) (o : OutputLengths) where
-  run-fits : none ≡ first-failing (run-tests (problem i) K o) → Fits (dim (i .system)) K (i .windows) o (run-past none (problem i) K)
-  unfolding run-past problem
-  run-fits e =
-      let g = ready (i .windows) i K o e in
-      subst (λ (d : ℕ). Fits d K (i .windows) o (run-past none (problem i) K)) (g .step .state)
-      (answer-fits (problem i .dynamics) (length (i .state)) K (i .windows) o (course-of (problem i) K) (course-rows (problem i) K (dynamics-keeps (i .system) (i .matrix) (i .step-size) (i .steps))) (g .rows) (g .exponents) (rw (g .step .state) (g .state)))
-
-  numbered-tests : Numbered (run-tests (problem i) K o)
-  unfolding run-tests problem
+-- windows of i that stand behind n others and are the last of `total`
+module _ (total : ℕ) (i : Input) (K : ℕ) (o : OutputLengths) (n : ℕ) where
+  numbered-tests : Numbered (run-tests (problem-within total i) K o)
+  unfolding run-tests problem-within
   numbered-tests = omega arith
 
-  past-fits : (r : Option Refusal) → r ≡ first-failing (run-tests (problem i) K o) → Fits (dim (i .system)) K (i .windows) o (run-past r (problem i) K)
+  pub refused-fits : (P : Problem) (r : Refusal) → some r ≡ first-failing (run-tests (problem-within total i) K o) → Fits (dim (i .system)) K (i .windows) o (counted-from n (run-past (some r) P K))
   unfolding run-past
-  past-fits (some r) e = record { wide = tt; many = refl; rows-room = omega arith; faint = refl; numbered = numbered-first (run-tests (problem i) K o) numbered-tests r e }
-  past-fits none e = run-fits e
+  refused-fits P r e = record { wide = tt; many = omega arith; rows-room = omega arith; faint = refl; numbered = numbered-first (run-tests (problem-within total i) K o) numbered-tests r e }
 
-  pub estimate-fits : Fits (dim (i .system)) K (i .windows) o (estimate i K o)
+  pub passed-fits : (M : Dynamics) (m : ℕ) (t : Course) → none ≡ first-failing (run-tests (problem-within total i) K o) → Rows (length (i .state)) K n (i .windows) t
+      → Fits (dim (i .system)) K (i .windows) o (counted-from n (answer M m K (t .rows) (t .end)))
+  passed-fits M m t e R =
+      let g = ready total i K o e in
+      subst (λ (d : ℕ). Fits d K (i .windows) o (counted-from n (answer M m K (t .rows) (t .end)))) (g .step .state)
+      (answer-fits M (length (i .state)) K n (i .windows) m o t R (g .rows) (g .exponents) (rw (g .step .state) (g .state)))
+
+module _ (i : Input) (K : ℕ) where
+  pub estimate-rows : Rows (length (i .state)) K 0 (i .windows) (course-of (problem i) K)
+  unfolding problem
+  estimate-rows = course-rows (problem i) K (dynamics-keeps (i .system) (i .matrix) (i .step-size) (i .steps))
+
+  past-fits : (o : OutputLengths) (r : Option Refusal) → r ≡ first-failing (run-tests (problem i) K o) → Fits (dim (i .system)) K (i .windows) o (counted-from 0 (run-past r (problem i) K))
+  unfolding run-past problem
+  past-fits o (some r) e = refused-fits (i .windows) i K o 0 (problem i) r e
+  past-fits o none e = passed-fits (i .windows) i K o 0 (problem i .dynamics) (i .windows) (course-of (problem i) K) e estimate-rows
+
+  pub estimate-fits : (o : OutputLengths) → Fits (dim (i .system)) K (i .windows) o (estimate i K o)
   unfolding estimate run
-  estimate-fits = past-fits (first-failing (run-tests (problem i) K o)) refl
+  estimate-fits o = subst (Fits (dim (i .system)) K (i .windows) o) (counted-from-0 (estimate i K o)) (past-fits o (first-failing (run-tests (problem i) K o)) refl)
 
 -- ---- rows
 
@@ -159,7 +180,7 @@ none-faint K = rest-same {A = ℕ} 0 K 16
 written-front : (n : ℕ) (l v : List Float) → length v ≡ n → n ≤ length l → take n (sets l 0 v) ≡ v
 written-front n l v e h = ap (take n) (sets-start v l (omega arith)) ∙ take-at v _ n e
 
-read-back : (d K w : ℕ) (rows es fs : List Float) (a : RunAnswer) → Fits d K w (lengths-of rows es fs) a → read d K (outputs w rows es fs a) ≡ a
+pub read-back : (d K w : ℕ) (rows es fs : List Float) (a : RunAnswer) → Fits d K w (lengths-of rows es fs) a → read d K (outputs w rows es fs a) ≡ a
 unfolding outputs-from
 read-back d K w rows es fs (ended rs x) h =
     rw (

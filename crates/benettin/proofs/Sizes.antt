@@ -152,7 +152,7 @@ module _ (M : Dynamics) (keeps : KeepsState M) (d K s : ℕ) where
           (record { finished = p .0 .finished ∙ z; state = p .0 .state; directions = p .0 .directions; sums = p .0 .sums; faint = p .0 .faint }, ap suc (p .1))
       go (refused r) p = (p .0 ∙ omega arith, p .1)
 
-  measured-rows : (w n : ℕ) (c : RunState) → Has d K n c → Rows d K n w (measured M s w c)
+  pub measured-rows : (w n : ℕ) (c : RunState) → Has d K n c → Rows d K n w (measured M s w c)
   unfolding measured
   measured-rows zero n c h =
       let z : n ≡ n + 0 = omega arith in
