@@ -3,6 +3,7 @@ pub mod Prefix
 pub mod Simulation
 pub mod LeadingSpectrum
 pub mod RunTests
+pub mod Either
 pub mod Sizes
 pub mod Reading
 pub mod Refusals

@@ -2,9 +2,7 @@
 use Prim.Native.Nat.{ℕ, zero, suc, _+_, _≤_, _<_}
 use native.Mathlib.Omega.{arith}
 use mathlib.Core.Path.{_≡_, refl, ap, _∙_}
-use mathlib.Core.Bool.{Bool, true, false, cond}
 use mathlib.Core.List.{List, [], map}
-use mathlib.Core.Option.{Option, none, some}
 use lib.ListN.{length, length-map, length-replicate}
 use lib.Ieee.{Float}
 use lib.Ieee.Scale.{finite}
@@ -12,11 +10,11 @@ use Rattle.floats.specs.Arithmetic.{_⊕_, zero⁺}
 use Rattle.floats.specs.Finite.{first-not-finite}
 use Rattle.floats.specs.Vector.{concat}
 use Rattle.floats.proofs.Updated.{zip-length}
-use Rattle.gram_schmidt.specs.Orthonormalise.{Basis, orthonormalise}
-use Rattle.gram_schmidt.proofs.Finished.{Logged, norms-length}
-use Rattle.benettin.specs.Run.{Dynamics, Problem, RunState, Status, ok, refused, refused-at, _then_, tested, stepped, step, steps, unless-collapsed, reorthonormalise, faint-or-not, count-faint, window}
+use Rattle.gram_schmidt.proofs.Finished.{norms-length}
+use Rattle.benettin.specs.Run.{Dynamics, Problem, RunState, RunRefusal, Status, ok, refused, _then_, stepped, step, steps, reorthonormalise, faint-or-not, count-faint, window}
 use Rattle.benettin.specs.Run.{warm-up, Course, accumulate, row, with-row, measured, check-duration, begin, warmed-up, measured-from, course, start-of, course-of, initial}
 use Rattle.benettin.specs.Refusals.{Wide}
+use Rattle.benettin.proofs.Either.{Either, then-either, tested-either, basis-either, duration-either}
 use Rattle.benettin.proofs.Prefix.{drawn-directions-length, orthonormalise-whole}
 
 -- K directions, sums and faint counts, d entries of state, and n measured windows finished
@@ -33,22 +31,13 @@ pub record HasLogs (d K n : ℕ) (c : RunState) : Type 0 where
   pub logs : length (c .norms .logs) ≡ K
   pub reports : length (c .norms .reports) ≡ K
 
--- what holds of a run under way, or n windows are finished where it is refused, by a number that is not 0
+-- n windows are finished where it is refused, by a number that is not 0
+abbrev pub RefusedAfter : ℕ → RunRefusal → Type 0
+RefusedAfter n r = (r .finished ≡ n) × (0 < r .number)
+
+-- what holds of a run under way, or of its refusal
 abbrev pub Holds : (RunState → Type 0) → ℕ → Status → Type 0
-Holds R n (ok c) = R c
-Holds R n (refused r) = (r .finished ≡ n) × (0 < r .number)
-
-then-holds : (Q R : RunState → Type 0) (n : ℕ) (x : Status) (f : RunState → Status) → Holds Q n x → ((c : RunState) → Q c → Holds R n (f c)) → Holds R n (x then f)
-unfolding _then_
-then-holds Q R n (ok c) f q h = h c q
-then-holds Q R n (refused r) f q h = q
-
-tested-holds : (R : RunState → Type 0) (p q : Option ℕ) (b : Bool) (n : ℕ) (c e : RunState) → c .totals .finished ≡ n → R e → Holds R n (tested p q b c e)
-unfolding tested
-tested-holds R (some i) q b n c e f h = (f, omega arith)
-tested-holds R none (some i) b n c e f h = (f, omega arith)
-tested-holds R none none false n c e f h = (f, omega arith)
-tested-holds R none none true n c e f h = h
+Holds R n = Either R (RefusedAfter n)
 
 -- ---- a window
 
@@ -63,26 +52,31 @@ module _ (M : Dynamics) (keeps : KeepsState M) (d K n : ℕ) where
       let a = M .advance (c .motion .steps) (c .motion .state) in
       let vs = map (a .1) (c .motion .directions) in
       let t = c .motion .time ⊕ M .step-size in
-      tested-holds (Has d K n) (first-not-finite (a .0)) (first-not-finite (concat vs)) (finite t) n c (stepped c (a .0) vs t) (h .finished)
-      (record { finished = h .finished; state = keeps (c .motion .steps) (c .motion .state) ∙ h .state; directions = length-map (c .motion .directions) (a .1) ∙ h .directions; sums = h .sums; faint = h .faint })
+      tested-either (RefusedAfter n) (Has d K n) c (λ _ _ p. (h .finished, p)) (first-not-finite (a .0)) (first-not-finite (concat vs)) (finite t) (stepped c (a .0) vs t)
+      (λ _.
+      record {
+        finished = h .finished;
+        state = keeps (c .motion .steps) (c .motion .state) ∙ h .state;
+        directions = length-map (c .motion .directions) (a .1) ∙ h .directions;
+        sums = h .sums;
+        faint = h .faint;
+      })
 
   steps-has : (s : ℕ) (c : RunState) → Has d K n c → Holds (Has d K n) n (steps M s c)
   unfolding steps
   steps-has zero c h = h
-  steps-has (suc s) c h = then-holds (Has d K n) (Has d K n) n (step M c) (steps M s) (step-has c h) (steps-has s)
-
-  basis-holds : (o : Option ℕ) (c : RunState) (b : Basis) → b .collapse ≡ o → Has d K n c → length (b .directions) ≡ K → Logged K b → Holds (HasLogs d K n) n (unless-collapsed o c b)
-  unfolding unless-collapsed
-  basis-holds (some i) c b e h v l = (h .finished, omega arith)
-  basis-holds none c b e h v l =
-      record { has = record { finished = h .finished; state = h .state; directions = v; sums = h .sums; faint = h .faint }; logs = l e .0; reports = l e .1 }
+  steps-has (suc s) c h = then-either (RefusedAfter n) (Has d K n) (Has d K n) (step M c) (steps M s) (step-has c h) (steps-has s)
 
   basis-has : (c : RunState) → Has d K n c → Holds (HasLogs d K n) n (reorthonormalise M c)
-  unfolding reorthonormalise
   basis-has c h =
-      let b = orthonormalise (M .lengths) [] (c .motion .directions) in
-      basis-holds (b .collapse) c b refl h (orthonormalise-whole (M .lengths) [] (c .motion .directions) .0 ∙ h .directions)
-      (λ e. let g = norms-length (M .lengths) [] (c .motion .directions) e in (g .0 ∙ h .directions, g .1 ∙ h .directions))
+      basis-either (RefusedAfter n) (HasLogs d K n) c (λ _ _ p. (h .finished, p)) M
+      (λ e.
+      let g = norms-length (M .lengths) [] (c .motion .directions) e in
+      record {
+        has = record { finished = h .finished; state = h .state; directions = orthonormalise-whole (M .lengths) [] (c .motion .directions) .0 ∙ h .directions; sums = h .sums; faint = h .faint };
+        logs = g .0 ∙ h .directions;
+        reports = g .1 ∙ h .directions;
+      })
 
   faint-has : (c : RunState) → HasLogs d K n c → HasLogs d K n (count-faint M c)
   unfolding count-faint
@@ -93,29 +87,23 @@ module _ (M : Dynamics) (keeps : KeepsState M) (d K n : ℕ) where
   pub window-has : (s : ℕ) (c : RunState) → Has d K n c → Holds (HasLogs d K n) n (window M s c)
   unfolding window
   window-has s c h =
-      then-holds (HasLogs d K n) (HasLogs d K n) n (steps M s c then reorthonormalise M) (λ e. ok (count-faint M e))
-      (then-holds (Has d K n) (HasLogs d K n) n (steps M s c) (reorthonormalise M) (steps-has s c h) basis-has) faint-has
+      then-either (RefusedAfter n) (HasLogs d K n) (HasLogs d K n) (steps M s c then reorthonormalise M) (λ e. ok (count-faint M e))
+      (then-either (RefusedAfter n) (Has d K n) (HasLogs d K n) (steps M s c) (reorthonormalise M) (steps-has s c h) basis-has) faint-has
 
   warm-up-has : (s w : ℕ) (c : RunState) → Has d K n c → Holds (Has d K n) n (warm-up M s w c)
   unfolding warm-up
   warm-up-has s zero c h = h
-  warm-up-has s (suc w) c h = then-holds (HasLogs d K n) (Has d K n) n (window M s c) (warm-up M s w) (window-has s c h) (λ e g. warm-up-has s w e (g .has))
-
-  duration-has : (c : RunState) → Has d K n c → Holds (Has d K n) n (check-duration M c)
-  unfolding check-duration
-  duration-has c h = go (finite (M .duration))
-    where
-      go : (b : Bool) → Holds (Has d K n) n (cond b (ok c) (refused (refused-at 15 0 c)))
-      go true = h
-      go false = (h .finished, omega arith)
+  warm-up-has s (suc w) c h = then-either (RefusedAfter n) (HasLogs d K n) (Has d K n) (window M s c) (warm-up M s w) (window-has s c h) (λ e g. warm-up-has s w e (g .has))
 
   pub begin-has : (c : RunState) → Has d K n c → Holds (Has d K n) n (begin M c)
   unfolding begin
-  begin-has c h = then-holds (HasLogs d K n) (Has d K n) n (reorthonormalise M c) (check-duration M) (basis-has c h) (λ e g. duration-has e (g .has))
+  begin-has c h =
+      then-either (RefusedAfter n) (HasLogs d K n) (Has d K n) (reorthonormalise M c) (check-duration M) (basis-has c h)
+      (λ e g. duration-either (RefusedAfter n) (Has d K n) e (λ _ _ p. (g .has .finished, p)) M (g .has))
 
   warmed-up-has : (s w : ℕ) (c : RunState) → Has d K n c → Holds (Has d K n) n (warmed-up M s w c)
   unfolding warmed-up
-  warmed-up-has s w c h = then-holds (Has d K n) (Has d K n) n (begin M c) (warm-up M s w) (begin-has c h) (warm-up-has s w)
+  warmed-up-has s w c h = then-either (RefusedAfter n) (Has d K n) (Has d K n) (begin M c) (warm-up M s w) (begin-has c h) (warm-up-has s w)
 
 -- ---- each finished window has its row
 

@@ -1,3 +1,2 @@
--- Laws that the proofs of the functions cite, one subject a file.
-pub mod Loops
+-- Laws that the proofs of the functions cite.
 pub mod WholeRun

@@ -15,15 +15,19 @@ use Rattle.error.specs.declared.Refusal.{Refusal}
 use Rattle.floats.specs.Arithmetic.{_⊗_}
 use Rattle.system.specs.System.{dim}
 use Rattle.system.specs.declared.System.{System}
+use Rattle.rk4.specs.Tests.{Passed}
 use Rattle.benettin.specs.Run.{Dynamics, Course, ok, refused, refused-at, begin, warmed-up, measured-from, course, start-of, course-of, as-float, answer, run-tests, run-past, run}
-use Rattle.benettin.specs.Estimate.{Input, limit, dynamics, problem, estimate}
+use Rattle.benettin.specs.Estimate.{Input, limit, dynamics, problem-within, problem, estimate}
 use Rattle.benettin.specs.Outputs.{Estimated, estimated, outputs-from, outputs, observed, lengths-of, flat-rows}
 use Rattle.benettin.specs.declared.SpectrumEstimate.{SpectrumEstimate}
 use Rattle.benettin.proofs.Reading.{none-faint}
-use Rattle.progress.specs.Progress.{Held, held, run-state, status, refused-estimate}
-use Rattle.progress.specs.declared.Progress.{Progress}
-use Rattle.progress.specs.UnderWay.{Bounded, Begun, WarmedUp, MeasuredWindows, Ended, Recorded, recorded, written}
-use Rattle.estimator.specs.Course.{Completed, RunDone, StandsAt, Ran}
+use Rattle.benettin.proofs.RunTests.{ready}
+use Rattle.totals.specs.Progress.{Held, held, run-state, status, refused-estimate}
+use Rattle.totals.specs.declared.Progress.{Progress}
+use Rattle.totals.specs.Ending.{Bounded, Ended}
+use Rattle.progress.specs.UnderWay.{Begun, Recorded, recorded}
+use Rattle.course.specs.Course.{WarmedUp, written, MeasuredWindows}
+use Rattle.estimator.specs.Estimates.{Completed, RunDone, StandsAt, Ran}
 use Rattle.estimator.specs.declared.estimate.RunEnd.{RunEnd}
 
 -- ---- where a run stands after its windows, and its end, once the tests are passed
@@ -82,8 +86,8 @@ module _ (i : Input) (K : ℕ) {H : Held} {rows es fs rows′ es′ fs′ : List
       no-refusal : {a : Refusal} → none ≡ some a → _≡_ {A = ℕ} 0 1
       no-refusal g = let y : _≡_ {A = ℕ} 0 1 = cc in y
 
-  pub stands : reported (r .estimate .outcome) ≡ none → StandsAt i K H
-  stands h = record { end = stands-by (reported (H .progress .outcome)) refl (sym h ∙ ap (λ (x : Estimated). x .refusal) (X .answered)); bounded = X .bounded }
+  stands : Passed (i .system) (i .matrix) (i .state) K (i .step-size) → reported (r .estimate .outcome) ≡ none → StandsAt i K H
+  stands p h = record { passed = p; end = stands-by (reported (H .progress .outcome)) refl (sym h ∙ ap (λ (x : Estimated). x .refusal) (X .answered)); bounded = X .bounded }
 
 -- ---- what the tests decide
 
@@ -107,9 +111,13 @@ module _ (i : Input) (K : ℕ) (rows es fs : List Float) where
   ran-refused ε r e h =
       record { meets = refused-by-tests ε r e h; stands = λ n. let y : none ≡ some (refusal ε) = sym n ∙ ap (λ (z : SpectrumEstimate). reported (z .outcome)) e in let z : _≡_ {A = ℕ} 0 1 = cc in absurd (omega (arith, z)) }
 
+  same-tests : tests-of ≡ first-failing (run-tests (problem-within (i .windows) i) K (lengths-of rows es fs))
+  unfolding problem
+  same-tests = refl
+
   pub ran-done : {x t ns rows′ es′ fs′ : List Float} {r : RunEnd} (moving tangents : List Float) → none ≡ tests-of → RunDone i K rows es fs r (held x t ns (r .progress)) rows′ es′ fs′
       → take (length (i .state)) moving ≡ x → take (K * length (i .state)) tangents ≡ t → Ran i K rows es fs r moving tangents ns rows′ es′ fs′
-  ran-done moving tangents h X a b = record { meets = run-by-tests _ h (X .answered); stands = λ n. rw (a, b) (stands i K X n) }
+  ran-done moving tangents h X a b = record { meets = run-by-tests _ h (X .answered); stands = λ n. rw (a, b) (stands i K X (ready (i .windows) i K (lengths-of rows es fs) (h ∙ same-tests) .step) n) }
 
 -- ---- the state and the directions, at the front of their arrays
 

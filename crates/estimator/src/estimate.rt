@@ -7,14 +7,13 @@ ghost use Rattle.floats.specs.Arithmetic.{zero⁺};
 ghost use Rattle.benettin.specs.Estimate as Estimate;
 ghost use Rattle.benettin.specs.Outputs as Outputs;
 ghost use Rattle.benettin.specs.Validation as Validation;
-ghost use Rattle.progress.specs.Progress.{held};
-ghost use Rattle.estimator.specs.Course as Course;
-use crate::course;
+ghost use Rattle.totals.specs.Progress.{held};
+ghost use Rattle.estimator.specs.Estimates as Estimates;
 use benettin::BenettinConfig;
 use benettin::SpectrumEstimate;
 use error::Outcome;
-use progress::Progress;
 use system::System;
+use totals::Progress;
 
 // What a run comes to: its answer, and what it carries on.
 pub struct RunEnd {
@@ -36,9 +35,9 @@ pub fn complete(
     total: u64,
     from: Progress,
 ) -> RunEnd
-    requires { ⌜ Course.Completes system (now matrix) (config .«top_k») (config .«step_size») (config .«steps_per_window») (config .windows) total (held (now state) (now tangents) (now norms) from)
+    requires { ⌜ Estimates.Completes system (now matrix) (config .«top_k») (config .«step_size») (config .«steps_per_window») (config .windows) total (held (now state) (now tangents) (now norms) from)
         (now rows) (now exponents) (now «final_state») ⌝ }
-    ensures { λ r. ⌜ Course.Completed system (now (matrix .entry)) (config .«top_k») (config .«step_size») (config .«steps_per_window») (config .windows) total
+    ensures { λ r. ⌜ Estimates.Completed system (now (matrix .entry)) (config .«top_k») (config .«step_size») (config .«steps_per_window») (config .windows) total
         (held (now (state .entry)) (now (tangents .entry)) (now (norms .entry)) from) (now (rows .entry)) (now (exponents .entry)) (now («final_state» .entry)) r
         (held (now (state .exit)) (now (tangents .exit)) (now (norms .exit)) (r .progress)) (now (rows .exit)) (now (exponents .exit)) (now («final_state» .exit)) ⌝ }
 {
@@ -58,7 +57,7 @@ pub fn complete(
         config.windows,
         from,
     );
-    let estimate = progress::end(state, exponents, final_state, k, h, n, total, progress);
+    let estimate = totals::end(state, exponents, final_state, k, h, n, total, progress);
     RunEnd { estimate, progress }
 }
 
@@ -77,7 +76,7 @@ fn run(
 ) -> RunEnd
     requires { ⌜ Validation.Ready (config .windows) (Estimate.input system (now matrix) time (now state) config) (config .«top_k») (Outputs.lengths-of (now rows) (now exponents) (now «final_state»))
         × (length (now tangents) ≡ config .«top_k» * length (now state)) × (length (now norms) ≡ 32) ⌝ }
-    ensures { λ r. ⌜ Course.RunDone (Estimate.input system (now (matrix .entry)) time (now (state .entry)) config) (config .«top_k») (now (rows .entry)) (now (exponents .entry)) (now («final_state» .entry)) r
+    ensures { λ r. ⌜ Estimates.RunDone (Estimate.input system (now (matrix .entry)) time (now (state .entry)) config) (config .«top_k») (now (rows .entry)) (now (exponents .entry)) (now («final_state» .entry)) r
         (held (now (state .exit)) (now (tangents .exit)) (now (norms .exit)) (r .progress)) (now (rows .exit)) (now (exponents .exit)) (now («final_state» .exit)) ⌝ }
 {
     let k = config.top_k;
@@ -127,7 +126,7 @@ pub fn run_in(
     final_state: &mut [f64],
 ) -> RunEnd
     requires { ⌜ (length (now moving) ≡ 16) × (length (now tangents) ≡ 256) × (length (now norms) ≡ 32) ⌝ }
-    ensures { λ r. ⌜ Course.Ran (Estimate.input system (now (matrix .entry)) time (now (state .entry)) config) (config .«top_k») (now (rows .entry)) (now (exponents .entry)) (now («final_state» .entry)) r
+    ensures { λ r. ⌜ Estimates.Ran (Estimate.input system (now (matrix .entry)) time (now (state .entry)) config) (config .«top_k») (now (rows .entry)) (now (exponents .entry)) (now («final_state» .entry)) r
         (now (moving .exit)) (now (tangents .exit)) (now (norms .exit)) (now (rows .exit)) (now (exponents .exit)) (now («final_state» .exit)) ⌝ }
 {
     if let Outcome::Refused(e) = benettin::validation::validate(
@@ -141,13 +140,13 @@ pub fn run_in(
         exponents.len(),
         final_state.len(),
     ) {
-        let estimate = progress::answer::refused(e, 0, 0);
-        let progress = progress::totals::fresh(Outcome::Refused(e), time);
+        let estimate = totals::answer::refused(e, 0, 0);
+        let progress = totals::fresh(Outcome::Refused(e), time);
         return RunEnd { estimate, progress };
     }
     let d = state.len();
     let kd = config.top_k * d;
-    progress::answer::copy_to(&mut moving[..d], state);
+    totals::answer::copy_to(&mut moving[..d], state);
     run(
         system,
         matrix,

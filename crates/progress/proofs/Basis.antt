@@ -20,7 +20,7 @@ use Rattle.gram_schmidt.specs.GramSchmidt.{Orthonormalised, euclidean, stored, 
 use Rattle.gram_schmidt.proofs.Finished.{after, norms-length}
 use Rattle.benettin.specs.Run.{Dynamics, RunState, Norms, Totals, refused, refused-at, unless-collapsed, reorthonormalise}
 use Rattle.benettin.proofs.Prefix.{orthonormalise-sized, orthonormalise-whole}
-use Rattle.progress.specs.Progress.{motion, norms-of, joined, status-of}
+use Rattle.totals.specs.Progress.{motion, norms-of, joined, status-of}
 
 -- the directions that lie in t
 abbrev pub basis : ℕ → ℕ → List Float → Basis

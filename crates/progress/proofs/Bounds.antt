@@ -1,25 +1,23 @@
 -- What bounds a run under way, and what fits together, from window to window.
 use Prim.Native.Nat.{ℕ, zero, suc, _+_, _≤_}
 use native.Mathlib.Omega.{arith}
-use mathlib.Core.Path.{_≡_, refl, sym, ap, _∙_}
+use mathlib.Core.Path.{_≡_, refl, _∙_}
 use mathlib.Core.Bool.{true}
-use mathlib.Core.List.{List, _++_}
-use lib.ListN.{length, take, getD, replicate, take-append-drop}
-use lib.Seq.{length-take-le}
+use mathlib.Core.List.{List}
+use lib.ListN.{length, getD, replicate}
 use lib.Ieee.{Float}
 use lib.Ieee.Scale.{finite}
 use Rattle.error.specs.declared.Outcome.{Outcome}
 use Rattle.floats.specs.Vector.{updated}
-use Rattle.floats.proofs.Sets.{drop-replicate}
 use Rattle.floats.proofs.Updated.{updated-drop, updated-length}
 use Rattle.system.specs.declared.System.{System}
 use Rattle.rk4.proofs.Tests.{passed-kept}
 use Rattle.benettin.specs.Estimate.{limit}
-use Rattle.benettin.specs.Outputs.{sixteen}
-use Rattle.progress.specs.Progress.{Held, fresh, after-steps, with-faint, with-sums, counted}
-use Rattle.progress.specs.UnderWay.{Bounded, Fits}
-use Rattle.progress.specs.declared.Progress.{Progress}
-use Rattle.progress.proofs.Lists.{counted-more}
+use Rattle.totals.specs.Progress.{Held, fresh, after-steps, with-faint, with-sums, counted}
+use Rattle.totals.specs.Ending.{Bounded}
+use Rattle.totals.specs.declared.Progress.{Progress}
+use Rattle.totals.proofs.Lists.{counted-more}
+use Rattle.progress.specs.UnderWay.{Fits}
 
 pub bounded-up : {k a b c e : ℕ} {p : Progress} → a ≤ b → c ≤ e → Bounded k a c p → Bounded k b e p
 bounded-up h g x =
@@ -53,12 +51,6 @@ module _ {k a c : ℕ} {p : Progress} (x : Bounded k a c p) where
 
   pub bounded-added : (s : List Float) → length s ≡ length (p .sums) → Bounded k a (c + 1) (with-sums p s)
   bounded-added s e = record { counts = x .counts; behind = x .behind; sums = e ∙ x .sums; clock = x .clock; steps = x .steps; windows = omega (arith, x .windows); faint = x .faint }
-
--- the counts of k directions, and zeros behind them
-pub faint-is : {k a c : ℕ} {p : Progress} → k ≤ 16 → Bounded k a c p → p .faint ≡ sixteen (take k (p .faint))
-faint-is {k = k} {p = p} h x =
-    let z : length (take k (p .faint)) ≡ k = length-take-le k (p .faint) (omega (arith, h, x .counts)) in
-    sym (take-append-drop k (p .faint)) ∙ ap (λ (l : List ℕ). take k (p .faint) ++ l) (x .behind ∙ drop-replicate {A = ℕ} 0 k 16 h ∙ rw z)
 
 -- ---- slices as long as before
 

@@ -23,9 +23,9 @@ use Rattle.splitmix64.specs.Mix.{next-state, mix, unit}
 use Rattle.benettin.specs.Run.{Generator, draws, generator-after, drawn-directions, initial, reorthonormalise, check-duration, begin, as-float, _then_}
 use Rattle.benettin.specs.Estimate.{dynamics, splitmix64}
 use Rattle.benettin.proofs.Prefix.{draws-length, take-replicate}
-use Rattle.progress.specs.Progress.{held, run-state, totals, status, fresh}
+use Rattle.totals.specs.Progress.{held, run-state, totals, status, fresh}
+use Rattle.totals.specs.declared.Progress.{Progress}
 use Rattle.progress.specs.UnderWay.{Begins, Begun}
-use Rattle.progress.specs.declared.Progress.{Progress}
 use Rattle.progress.proofs.Basis.{reorthonormalised}
 use Rattle.progress.proofs.Bounds.{bounded-fresh}
 

@@ -1,9 +1,6 @@
 -- Laws that the proofs of the functions cite, one subject a file. Crate estimator cites Bounds.
-pub mod Lists
-pub mod Rows
 pub mod Bounds
 pub mod Basis
 pub mod Draws
 pub mod Steps
 pub mod Windows
-pub mod Ending

@@ -28,7 +28,7 @@ use Rattle.rk4.proofs.Advance.{direction-length}
 use Rattle.rk4.proofs.Tests.{passed-kept}
 use Rattle.benettin.specs.Run.{Dynamics, RunState, Norms, Totals, Status, ok, refused, refused-at, tested, step, steps, _then_}
 use Rattle.benettin.specs.Estimate.{dynamics}
-use Rattle.progress.specs.Progress.{motion, joined}
+use Rattle.totals.specs.Progress.{motion, joined}
 use Rattle.progress.specs.UnderWay.{Advanced}
 
 -- ---- one step

@@ -19,9 +19,10 @@ use Rattle.system.specs.declared.System.{System}
 use Rattle.gram_schmidt.specs.GramSchmidt.{euclidean, observed, orthonormalised}
 use Rattle.benettin.specs.Run.{Dynamics, RunState, ok, steps, reorthonormalise, count-faint, window, accumulate, row, as-float, _then_}
 use Rattle.benettin.specs.Estimate.{dynamics, limit}
-use Rattle.progress.specs.Progress.{Held, held, motion, norms-of, totals, joined, run-state, status-of, status, after-steps, with-faint, with-sums, counted}
-use Rattle.progress.specs.UnderWay.{Fits, Advanced, Windowed, MeasuredWindow, most}
-use Rattle.progress.specs.declared.Progress.{Progress}
+use Rattle.totals.specs.Progress.{Held, held, motion, norms-of, totals, joined, run-state, status-of, status, after-steps, with-faint, with-sums, counted}
+use Rattle.totals.specs.Ending.{most}
+use Rattle.totals.specs.declared.Progress.{Progress}
+use Rattle.progress.specs.UnderWay.{Fits, Advanced, Windowed, MeasuredWindow}
 use Rattle.progress.specs.declared.advance.Advance.{Advance}
 use Rattle.progress.proofs.Basis.{reorthonormalised, reports-many}
 use Rattle.progress.proofs.Bounds.{bounded-steps, bounded-counted, bounded-added}

@@ -1,3 +1,2 @@
--- What the contracts of a run under way cite: the run as the code holds it. A reader may skip it: the run and what is stated of it are in crate benettin.
-pub mod Progress
+-- What the contracts of a run under way cite. A reader may skip it: the run and what is stated of it are in crate benettin.
 pub mod UnderWay

@@ -1,36 +1,25 @@
-// A run under way: begin, one window, one measured window with its row, the end. Crate estimator has the whole run over it.
+// A run under way: begin, one window, one measured window with its row. Crate course has the loops over
+// windows, and crate estimator the whole run over them.
 //
 // These functions are `pub` because other crates of ours go on with a run: each has a `requires`, which says what passed the
 // tests and how long the slices are. What a run carries lies in a `Progress` and in three slices: the state, the directions
-// one after the other, and their logarithms and squared lengths. Nothing is allocated. Start with specs/Progress.antt, which
-// says which state of a run that stands for, and specs/UnderWay.antt, which says what each function leaves: the run itself is
-// defined in crate benettin. draw.rt, advance.rt, totals.rt and answer.rt have the parts of these functions.
+// one after the other, and their logarithms and squared lengths. Nothing is allocated. Start with totals/specs/Progress.antt,
+// which says which state of a run that stands for, and specs/UnderWay.antt, which says what each function leaves: the run
+// itself is defined in crate benettin. draw.rt, advance.rt and crate totals, which has `Progress` and the end of a run, have
+// the parts of these functions.
 mod advance;
-pub mod answer;
 mod draw;
-pub mod totals;
 
 ghost use Prim.Native.Nat.{_*_, _+_};
 ghost use mathlib.Core.Path.{_≡_};
 ghost use lib.ListN.{length};
-ghost use Rattle.floats.specs.Arithmetic.{_⊗_};
-ghost use Rattle.benettin.specs.Run as Run;
-ghost use Rattle.progress.specs.Progress.{held};
+ghost use Rattle.totals.specs.Progress.{held};
+ghost use Rattle.totals.specs.Ending.{most};
 ghost use Rattle.progress.specs.UnderWay as Under;
-use benettin::SpectrumEstimate;
 use error::LyapunovError;
 use error::Outcome;
 use system::System;
-
-// What a run carries from window to window, beside the three slices.
-pub struct Progress {
-    pub outcome: Outcome,
-    pub windows: u64,
-    pub steps: u64,
-    pub time: f64,
-    pub faint: [u64; 16],
-    pub sums: [f64; 16],
-}
+use totals::Progress;
 
 // The directions are drawn and orthonormalised (14), then the duration of a window of n steps is tested (15).
 pub fn begin(
@@ -68,7 +57,7 @@ pub fn window(
     n: u64,
     from: Progress,
 ) -> Progress
-    requires { ⌜ Under.Fits system (now matrix) k h n Under.most Under.most (held (now state) (now tangents) (now norms) from) ⌝ }
+    requires { ⌜ Under.Fits system (now matrix) k h n most most (held (now state) (now tangents) (now norms) from) ⌝ }
     ensures { λ r. ⌜ Under.Windowed system (now (matrix .entry)) k h n (held (now (state .entry)) (now (tangents .entry)) (now (norms .entry)) from)
         (held (now (state .exit)) (now (tangents .exit)) (now (norms .exit)) r) ⌝ }
 {
@@ -99,7 +88,7 @@ pub fn measured_window(
     n: u64,
     from: Progress,
 ) -> Progress
-    requires { ⌜ Under.Fits system (now matrix) k h n Under.most Under.most (held (now state) (now tangents) (now norms) from) × (length (now row) ≡ 1 + 2 * k) ⌝ }
+    requires { ⌜ Under.Fits system (now matrix) k h n most most (held (now state) (now tangents) (now norms) from) × (length (now row) ≡ 1 + 2 * k) ⌝ }
     ensures { λ r. ⌜ Under.MeasuredWindow system (now (matrix .entry)) k h n (held (now (state .entry)) (now (tangents .entry)) (now (norms .entry)) from) (now (row .entry))
         (held (now (state .exit)) (now (tangents .exit)) (now (norms .exit)) r) (now (row .exit)) ⌝ }
 {
@@ -113,38 +102,4 @@ pub fn measured_window(
     let elapsed = length * totals::as_float(p.windows);
     totals::write_row(row, &norms[..k], p, length, elapsed);
     p
-}
-
-// The answer of a run of so many measured windows, its exponents and its final state. A refused run writes neither.
-pub fn end(
-    state: &[f64],
-    exponents: &mut [f64],
-    final_state: &mut [f64],
-    k: usize,
-    h: f64,
-    n: u64,
-    windows: u64,
-    done: Progress,
-) -> SpectrumEstimate
-    requires { ⌜ Under.Ends k n windows (now state) (now exponents) (now «final_state») done ⌝ }
-    ensures { λ r. ⌜ (Under.Ended k (h ⊗ Run.as-float n) windows (now (state .entry)) done (now (exponents .entry)) (now («final_state» .entry)) r (now (exponents .exit)) (now («final_state» .exit))) ⌝ }
-{
-    let v = done.outcome;
-    if let Outcome::Refused(e) = v {
-        return answer::refused(e, done.windows, done.steps);
-    }
-    let measured = totals::duration(h, n) * totals::as_float(windows);
-    let sums = done.sums;
-    totals::write_rates(&mut exponents[..k], &sums[..k], measured);
-    let d = state.len();
-    answer::copy_to(&mut final_state[..d], state);
-    let faint = done.faint;
-    SpectrumEstimate {
-        outcome: Outcome::Accepted,
-        windows,
-        steps: done.steps,
-        final_time: done.time,
-        measured_time: measured,
-        faint,
-    }
 }

@@ -7,8 +7,8 @@ use lib.ListN.{length, take}
 use lib.Seq.{length-take-le}
 use Rattle.floats.specs.Arithmetic.{_⊕_}
 use Rattle.floats.proofs.Updated.{updated-length}
-use Rattle.progress.specs.UnderWay.{Bounded, most}
-use Rattle.progress.specs.declared.Progress.{Progress}
+use Rattle.totals.specs.Ending.{Bounded, most}
+use Rattle.totals.specs.declared.Progress.{Progress}
 use Rattle.progress.proofs.Windows.{measured-refused, measured-done}
 use Rattle.progress.proofs.measured_window.Statement.{statement}
 use Rattle.progress.proofs.measured_window.Tie as tie

@@ -3,7 +3,7 @@ use borrow.Author.Needs.{needs}
 use native.Mathlib.Omega.{arith}
 use mathlib.Core.Path.{ap, _∙_}
 use lib.ListN.{length, length-take}
-use Rattle.progress.specs.declared.Progress.{Progress}
+use Rattle.totals.specs.declared.Progress.{Progress}
 use Rattle.progress.proofs.Windows.{steps-refused, basis-collapsed, window-done}
 use Rattle.progress.proofs.window.Statement.{statement}
 use Rattle.progress.proofs.window.Tie as tie

@@ -24,7 +24,7 @@ end-requires c κs =
     record {
       few = p .fits .passed .count;
       steps = p .fits .steps;
-      windows = p .total-limit;
+      windows = omega (arith, p .later-limit, p .total-limit);
       exponents = p .exponents;
       state = omega (arith, m .measure .kept .1 .1 .0, p .fits .passed .state, p .state);
       bounded = bounded-up (omega (arith, p .later-limit)) (omega (arith, p .later-limit)) (m .measure .ensures .bounded (limit + limit) limit (p .fits .bounded));

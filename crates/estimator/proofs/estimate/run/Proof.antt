@@ -4,7 +4,7 @@ use native.Mathlib.Omega.{arith}
 use mathlib.Core.Path.{refl, ap, _∙_}
 use Prim.Native.Nat.{ℕ, _+_, _*_}
 use Rattle.benettin.specs.Estimate.{Input, input, limit}
-use Rattle.progress.specs.Progress.{held}
+use Rattle.totals.specs.Progress.{held}
 use Rattle.progress.specs.UnderWay.{Fits}
 use Rattle.progress.proofs.Bounds.{bounded-up, fits-up, fits-kept}
 use Rattle.estimator.proofs.WholeRun.{course-is, run-done}

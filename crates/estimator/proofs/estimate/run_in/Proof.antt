@@ -15,8 +15,8 @@ use Rattle.benettin.specs.Run.{OutputLengths, run-tests}
 use Rattle.benettin.specs.Outputs.{lengths-of}
 use Rattle.benettin.specs.Validation.{Ready}
 use Rattle.benettin.proofs.RunTests.{ready}
-use Rattle.progress.specs.Progress.{held}
-use Rattle.estimator.specs.Course.{RunDone}
+use Rattle.totals.specs.Progress.{held}
+use Rattle.estimator.specs.Estimates.{RunDone}
 use Rattle.estimator.proofs.WholeRun.{ran-refused, ran-done, front, few-entries}
 use Rattle.estimator.proofs.estimate.run_in.Statement.{statement}
 use Rattle.estimator.proofs.estimate.run_in.Tie as tie
