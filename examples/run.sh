@@ -1,5 +1,5 @@
 #!/usr/bin/env bash
-# Compiles the example with the header and the archive, and runs it. Usage: examples/run.sh ARCHIVE
+# Compiles the examples with the header and the archive, and runs them. Usage: examples/run.sh ARCHIVE
 set -euo pipefail
 
 if [ $# -ne 1 ] || [ ! -f "$1" ]; then
@@ -12,6 +12,8 @@ work=$(mktemp -d)
 trap 'rm -rf "$work"' EXIT
 
 cc=${CC:-cc}
-"$cc" -std=c99 -pedantic -Wall -Wextra -Werror -O2 -I "$root/include" \
-    "$root/examples/lorenz.c" "$archive" -o "$work/lorenz"
-"$work/lorenz"
+for example in lorenz continuations; do
+    "$cc" -std=c99 -pedantic -Wall -Wextra -Werror -O2 -I "$root/include" \
+        "$root/examples/$example.c" "$archive" -o "$work/$example"
+    "$work/$example"
+done

@@ -25,16 +25,17 @@
  *     struct lyapunov_estimate estimate = lyapunov_spectrum(
  *         &lorenz, lyapunov_lent_const(start, 3), &built.settings, &outputs);
  *
- * examples/lorenz.c is a whole program. The structs and the functions that take them stand at the
- * end of this header; they are `static inline`, over the exported functions that come before them.
- * Those take numbers and pointers alone, for other languages and for programs that call them
- * already.
+ * examples/lorenz.c is a whole program, and examples/continuations.c one that goes on from a kept
+ * state, see KEEPING A STATE. The structs and the functions that take them stand at the end of this
+ * header; they are `static inline`, over the exported functions that come before them. Those take
+ * numbers and pointers alone, for other languages and for programs that call them already.
  *
  * LATER VERSIONS keep what this one has: exported functions keep their arguments and their meaning.
  * Structs may get more fields. A program that makes them by the functions here, and sets and reads
  * fields by name, compiles and means the same: a new setting starts as what a run does today, and a
- * new output as one that is not lent. Names that begin with lyapunov_ and LYAPUNOV_ belong to this
- * header.
+ * new output as one that is not lent. A store of kept states is for the archive of this header:
+ * another version may need longer arrays, and reads none that this one filled. Names that begin
+ * with lyapunov_ and LYAPUNOV_ belong to this header.
  *
  * WHAT A CALL ANSWERS
  *
@@ -66,7 +67,7 @@
  * in any number of threads at once, on different memory. Nothing is allocated, no file, clock or
  * environment is read, no signal is raised, and errno is left alone. Floating point must be in the
  * mode that C starts in: rounding to nearest, subnormals kept. Stack use is bounded, since nothing
- * is recursive: a run was measured at 9,368 bytes on x86-64, its arguments among them, and no
+ * is recursive: a keep was measured at 12,680 bytes on x86-64, its arguments among them, and no
  * function uses more. The archive needs memcpy and memset of the C library, and no libm.
  *
  * REFUSALS
@@ -98,6 +99,9 @@
  *   17  an entry of the directions became not finite; place: the first such index, so that the
  *       direction is place / dimension
  *   18  the time became not finite
+ * Whoever keeps states, before all other tests:
+ *   26  nothing is kept under the number; on going on and forgetting
+ *   27  eight other numbers are kept; on keeping
  * Whoever reads rates:
  *   20  there are no exponents
  *   21  there are more than LYAPUNOV_MAX_EXPONENTS exponents
@@ -122,6 +126,10 @@ extern "C" {
 #define LYAPUNOV_MAX_COUNT 16777216
 /* The most exponents of a dimension or an entropy. */
 #define LYAPUNOV_MAX_EXPONENTS 256
+/* The most states that are kept, and the lengths of the two arrays that hold them. */
+#define LYAPUNOV_STORE_STATES 8
+#define LYAPUNOV_STORE_FLOATS 2568
+#define LYAPUNOV_STORE_COUNTS 152
 /* The seed to take where there is no reason for another. */
 #define LYAPUNOV_DEFAULT_SEED UINT64_C(0x4c594150554e4f56)
 
@@ -154,7 +162,8 @@ extern "C" {
 /* Places in counts, which a run writes. */
 enum lyapunov_counts {
     LYAPUNOV_PLACE = 0,    /* the place of the refusal, 0 where it has none or nothing is refused */
-    LYAPUNOV_FINISHED = 1, /* finished measured windows: so many rows are written */
+    LYAPUNOV_FINISHED = 1, /* finished measured windows: so many rows are written, and by a going on
+                            * so many without the kept ones */
     LYAPUNOV_STEPS = 2,    /* steps that passed every test, warm-up included */
     LYAPUNOV_FAINT = 3,    /* the faint count of direction i is at LYAPUNOV_FAINT + i, i below 16 */
     LYAPUNOV_COUNTS = 19   /* the length of counts */
@@ -246,6 +255,83 @@ uint64_t lyapunov_estimate_largest(
     double *exponents, size_t exponents_len,
     double *final_state, size_t final_state_len,
     uint64_t *counts, double *times);
+
+/*
+ * KEEPING A STATE: a run is stopped after some measured windows and kept under a number from 0 to
+ * 255. Any number of continuations may start from there, so that several of one settled orbit
+ * settle it once.
+ *
+ *   store_floats   LYAPUNOV_STORE_FLOATS floats, and
+ *   store_counts   LYAPUNOV_STORE_COUNTS numbers: the store; struct lyapunov_store has both
+ *   number         0 to 255; C turns any other into one of these, modulo 256
+ *   kind .. times  as in A RUN
+ *
+ * THE STORE is the caller's memory, and there may be any number of stores. Each keeps up to
+ * LYAPUNOV_STORE_STATES states under as many numbers. What its entries mean is not said. A copy of
+ * it as a whole, both arrays by memcpy, keeps the same states. It may hold anything, random bytes
+ * too: every call ends then as well, and touches nothing else, but what such a store keeps is not
+ * said until lyapunov_empty_store has emptied it.
+ *
+ * KEEPING answers and writes what lyapunov_estimate_spectrum_at does with the same arguments. Where
+ * that run is not refused, its end is kept under the number, in place of what was kept under it. A
+ * refused run keeps and replaces nothing: the store stays as it is.
+ *
+ * GOING ON for b = `windows` from a run that was kept after a windows gives the end of the one run
+ * of a + b windows: its answer, counts, times, exponents and final state. Of its rows the later
+ * ones are written, from place 0 on: row w of a going on is row a + w of the one run, and rows has
+ * at least LYAPUNOV_ROWS_LENGTH(top_k, b) floats. The store is only read, so what is kept stays as
+ * it is, and threads may go on from one store at the same time.
+ *
+ * WHAT MUST BE BROUGHT to a going on is what was brought to the keeping, apart from `windows` and
+ * the outputs: the same system, a linear one with the same matrix, and the same time, state, top_k,
+ * step_size, steps_per_window, transient_windows and seed. Whether it is the same is not tested.
+ * Where it is not, any answer may come, with any floats in the outputs; the call still ends, and
+ * touches nothing else.
+ *
+ * FORGETTING makes the number one that is not kept, and its place free for another. It writes
+ * store_counts alone.
+ *
+ * ORDER OF TESTS. 27 on keeping, 26 on going on and forgetting, both with place 0; then those of a
+ * run. On going on 4 tests b, 5 at place 1 tests a + b, which does not overflow, and 13 counts b
+ * rows.
+ *
+ * REFUSED. By 26 or 27 finished, steps and faint counts are 0 and the times +0.0, and nothing else
+ * is written. By another number it is as in A RUN. A going on that is refused in a window has
+ * finished the a kept windows too, and has written counts[LYAPUNOV_FINISHED] - a rows. A refused
+ * forgetting leaves the store as it is.
+ */
+
+/* Makes a store with nothing kept. Of the floats nothing need be set. */
+void lyapunov_empty_store(uint64_t *store_counts);
+
+/* A run of `windows` measured windows, kept under the number. */
+uint64_t lyapunov_keep(
+    double *store_floats, uint64_t *store_counts, uint8_t number,
+    uint64_t kind, double p0, double p1, double p2,
+    size_t dimension, const double *matrix, size_t matrix_len,
+    double time, const double *state, size_t state_len,
+    size_t top_k, double step_size, uint64_t steps_per_window, uint64_t windows,
+    uint64_t transient_windows, uint64_t seed,
+    double *rows, size_t rows_len,
+    double *exponents, size_t exponents_len,
+    double *final_state, size_t final_state_len,
+    uint64_t *counts, double *times);
+
+/* Goes on for `windows` measured windows from what is kept under the number. */
+uint64_t lyapunov_go_on(
+    const double *store_floats, const uint64_t *store_counts, uint8_t number,
+    uint64_t kind, double p0, double p1, double p2,
+    size_t dimension, const double *matrix, size_t matrix_len,
+    double time, const double *state, size_t state_len,
+    size_t top_k, double step_size, uint64_t steps_per_window, uint64_t windows,
+    uint64_t transient_windows, uint64_t seed,
+    double *rows, size_t rows_len,
+    double *exponents, size_t exponents_len,
+    double *final_state, size_t final_state_len,
+    uint64_t *counts, double *times);
+
+/* Forgets what is kept under the number. */
+uint64_t lyapunov_forget(const double *store_floats, uint64_t *store_counts, uint8_t number);
 
 /*
  * Tests the settings of a run without running: 1 to 5, with no warm-up windows. A run tests them
@@ -469,7 +555,8 @@ static inline struct lyapunov_built lyapunov_build_settings(
     return built;
 }
 
-/* The same settings with so many warm-up windows, or with another seed. The run tests them. */
+/* The same settings with so many warm-up windows, with another seed, or with so many measured
+ * windows, as a going on takes them. The run tests them. */
 static inline struct lyapunov_settings lyapunov_with_transient_windows(
     struct lyapunov_settings settings, uint64_t transient_windows)
 {
@@ -481,6 +568,13 @@ static inline struct lyapunov_settings lyapunov_with_seed(
     struct lyapunov_settings settings, uint64_t seed)
 {
     settings.seed = seed;
+    return settings;
+}
+
+static inline struct lyapunov_settings lyapunov_with_windows(
+    struct lyapunov_settings settings, uint64_t windows)
+{
+    settings.required.windows = windows;
     return settings;
 }
 
@@ -507,11 +601,24 @@ static inline struct lyapunov_outputs lyapunov_no_outputs(void)
 /* What a run answers beside its outputs. */
 struct lyapunov_estimate {
     struct lyapunov_refusal refusal;
-    uint64_t finished_windows; /* measured ones: so many rows are written */
+    uint64_t finished_windows; /* measured ones: so many rows are written, but see GOING ON */
     uint64_t steps;            /* that passed every test, warm-up included */
     uint64_t faint_counts[LYAPUNOV_MAX_DIMENSION]; /* see FAINT COUNTS above */
     double final_time;
     double measured_time;
+};
+
+/* Where states are kept, see KEEPING A STATE above; it has 21,760 bytes. Empty it by
+ * lyapunov_store_empty first. It may be copied as any struct.
+ *
+ *     lyapunov_store_empty(&store);
+ *     lyapunov_store_keep(&store, 7, &system, 0.0, start, &settings, &outputs);
+ *     settings = lyapunov_with_windows(settings, 500);
+ *     lyapunov_store_go_on(&store, 7, &system, 0.0, start, &settings, &outputs);
+ */
+struct lyapunov_store {
+    double floats[LYAPUNOV_STORE_FLOATS];
+    uint64_t counts[LYAPUNOV_STORE_COUNTS];
 };
 
 /* A row of a finished measured window. Each of the two lists has top_k exponents. */
@@ -521,7 +628,8 @@ struct lyapunov_row {
     const double *running_exponents;
 };
 
-/* Row `window`, from 0, of a run with these settings. It must be one that is written. */
+/* Row `window`, from 0, of a run or of a going on with these settings. It must be one that is
+ * written. */
 static inline struct lyapunov_row lyapunov_row_at(
     const struct lyapunov_settings *settings, const struct lyapunov_outputs *outputs, size_t window)
 {
@@ -603,6 +711,19 @@ static inline struct lyapunov_refusal lyapunov_validate_run(
     return refusal;
 }
 
+/* For the functions below: the arguments of a run up to its matrix, and from its state on. */
+#define LYAPUNOV_SYSTEM_ARGUMENTS(system, run) \
+    (system)->kind, (system)->p0, (system)->p1, (system)->p2, (system)->dimension, \
+        (run).matrix.at, (run).matrix.length
+#define LYAPUNOV_RUN_ARGUMENTS(settings, run) \
+    (run).state.at, (run).state.length, \
+        (settings)->required.top_k, (settings)->required.step_size, \
+        (settings)->required.steps_per_window, (settings)->required.windows, \
+        (settings)->transient_windows, (settings)->seed, LYAPUNOV_OUTPUT_ARGUMENTS(run)
+#define LYAPUNOV_OUTPUT_ARGUMENTS(run) \
+    (run).rows.at, (run).rows.length, (run).exponents.at, (run).exponents.length, \
+        (run).final_state.at, (run).final_state.length, (run).counts, (run).times
+
 /* A run from a start time: lyapunov_estimate_spectrum_at. */
 static inline struct lyapunov_estimate lyapunov_spectrum_at(
     const struct lyapunov_system *system, double time, struct lyapunov_const_slice state,
@@ -611,13 +732,7 @@ static inline struct lyapunov_estimate lyapunov_spectrum_at(
     struct lyapunov_run run;
     lyapunov_begin_run(&run, system, state, outputs);
     return lyapunov_end_run(&run, lyapunov_estimate_spectrum_at(
-        system->kind, system->p0, system->p1, system->p2, system->dimension,
-        run.matrix.at, run.matrix.length, time, run.state.at, run.state.length,
-        settings->required.top_k, settings->required.step_size,
-        settings->required.steps_per_window, settings->required.windows,
-        settings->transient_windows, settings->seed,
-        run.rows.at, run.rows.length, run.exponents.at, run.exponents.length,
-        run.final_state.at, run.final_state.length, run.counts, run.times));
+        LYAPUNOV_SYSTEM_ARGUMENTS(system, run), time, LYAPUNOV_RUN_ARGUMENTS(settings, run)));
 }
 
 /* A run from time 0: lyapunov_estimate_spectrum. */
@@ -628,13 +743,7 @@ static inline struct lyapunov_estimate lyapunov_spectrum(
     struct lyapunov_run run;
     lyapunov_begin_run(&run, system, state, outputs);
     return lyapunov_end_run(&run, lyapunov_estimate_spectrum(
-        system->kind, system->p0, system->p1, system->p2, system->dimension,
-        run.matrix.at, run.matrix.length, run.state.at, run.state.length,
-        settings->required.top_k, settings->required.step_size,
-        settings->required.steps_per_window, settings->required.windows,
-        settings->transient_windows, settings->seed,
-        run.rows.at, run.rows.length, run.exponents.at, run.exponents.length,
-        run.final_state.at, run.final_state.length, run.counts, run.times));
+        LYAPUNOV_SYSTEM_ARGUMENTS(system, run), LYAPUNOV_RUN_ARGUMENTS(settings, run)));
 }
 
 /* A run from time 0 for the largest exponent, with the defaults: lyapunov_estimate_largest. The
@@ -646,11 +755,56 @@ static inline struct lyapunov_estimate lyapunov_largest(
     struct lyapunov_run run;
     lyapunov_begin_run(&run, system, state, outputs);
     return lyapunov_end_run(&run, lyapunov_estimate_largest(
-        system->kind, system->p0, system->p1, system->p2, system->dimension,
-        run.matrix.at, run.matrix.length, run.state.at, run.state.length,
+        LYAPUNOV_SYSTEM_ARGUMENTS(system, run), run.state.at, run.state.length,
         required->step_size, required->steps_per_window, required->windows,
-        run.rows.at, run.rows.length, run.exponents.at, run.exponents.length,
-        run.final_state.at, run.final_state.length, run.counts, run.times));
+        LYAPUNOV_OUTPUT_ARGUMENTS(run)));
+}
+
+/* Makes a store with nothing kept: lyapunov_empty_store. */
+static inline void lyapunov_store_empty(struct lyapunov_store *store)
+{
+    lyapunov_empty_store(store->counts);
+}
+
+/* A run from a start time, kept under a number: lyapunov_keep. */
+static inline struct lyapunov_estimate lyapunov_store_keep(
+    struct lyapunov_store *store, uint8_t number,
+    const struct lyapunov_system *system, double time, struct lyapunov_const_slice state,
+    const struct lyapunov_settings *settings, const struct lyapunov_outputs *outputs)
+{
+    struct lyapunov_run run;
+    lyapunov_begin_run(&run, system, state, outputs);
+    return lyapunov_end_run(&run, lyapunov_keep(
+        store->floats, store->counts, number,
+        LYAPUNOV_SYSTEM_ARGUMENTS(system, run), time, LYAPUNOV_RUN_ARGUMENTS(settings, run)));
+}
+
+/* Goes on from what is kept under a number: lyapunov_go_on. Bring what was brought to the keeping,
+ * apart from the windows, which lyapunov_with_windows sets, and the outputs. */
+static inline struct lyapunov_estimate lyapunov_store_go_on(
+    const struct lyapunov_store *store, uint8_t number,
+    const struct lyapunov_system *system, double time, struct lyapunov_const_slice state,
+    const struct lyapunov_settings *settings, const struct lyapunov_outputs *outputs)
+{
+    struct lyapunov_run run;
+    lyapunov_begin_run(&run, system, state, outputs);
+    return lyapunov_end_run(&run, lyapunov_go_on(
+        store->floats, store->counts, number,
+        LYAPUNOV_SYSTEM_ARGUMENTS(system, run), time, LYAPUNOV_RUN_ARGUMENTS(settings, run)));
+}
+
+#undef LYAPUNOV_SYSTEM_ARGUMENTS
+#undef LYAPUNOV_RUN_ARGUMENTS
+#undef LYAPUNOV_OUTPUT_ARGUMENTS
+
+/* Forgets what is kept under a number: lyapunov_forget. */
+static inline struct lyapunov_refusal lyapunov_store_forget(
+    struct lyapunov_store *store, uint8_t number)
+{
+    struct lyapunov_refusal refusal;
+    refusal.number = lyapunov_forget(store->floats, store->counts, number);
+    refusal.place = 0;
+    return refusal;
 }
 
 /* One step of the state and of `count` directions: lyapunov_step. */
@@ -701,6 +855,8 @@ static inline const char *lyapunov_refusal_text(uint64_t number)
         "The number of bytes is not a multiple of 8.",
         "The logarithm is of a number that is not positive, normal and finite.",
         "The ring has fewer than 4 cells.",
+        "No state is kept under the number.",
+        "Eight other numbers are kept.",
     };
     const uint64_t known = sizeof texts / sizeof *texts;
     return number < known ? texts[number] : "No refusal has this number.";

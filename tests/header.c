@@ -1,7 +1,7 @@
 /*
  * The structs of the header: what they answer equals what the exported functions answer, to the
- * bit, on several systems; the builder's defaults and refusals; slices at NULL; every refusal's
- * text. It is compiled as C99 and as C++11. Exit status 0, or 1 where something differs.
+ * bit, on several systems; the builder's defaults and refusals; slices at NULL; kept states; every
+ * refusal's text. It is compiled as C99 and as C++11. Exit status 0, or 1 where something differs.
  */
 #include "lyapunov.h"
 
@@ -69,7 +69,7 @@ static struct lyapunov_outputs lent(struct left *left, size_t top_k, size_t dime
     return outputs;
 }
 
-static void keep(struct left *left, struct lyapunov_estimate estimate)
+static void note(struct left *left, struct lyapunov_estimate estimate)
 {
     left->number = estimate.refusal.number;
     left->counts[LYAPUNOV_PLACE] = estimate.refusal.place;
@@ -80,9 +80,11 @@ static void keep(struct left *left, struct lyapunov_estimate estimate)
     left->times[LYAPUNOV_MEASURED_TIME] = estimate.measured_time;
 }
 
-/* The arguments of a trial's system and of its outputs, one after the other. */
+/* The arguments of a trial's system, settings and outputs, one after the other. */
 #define SYSTEM_OF(t) \
     (t)->kind, (t)->p[0], (t)->p[1], (t)->p[2], (t)->dimension, (t)->matrix, (t)->matrix_len
+#define SETTINGS_OF(t, windows) \
+    (t)->dimension, 0.0625, (t)->steps, (windows), (t)->transient_windows, (t)->seed
 #define OUTPUTS_OF(l, k, d) \
     (l)->rows, LYAPUNOV_ROWS_LENGTH(k, WINDOWS), (l)->exponents, (k), (l)->final_state, (d), \
         (l)->counts, (l)->times
@@ -101,25 +103,23 @@ static void runs(const struct trial *t)
     const struct lyapunov_const_slice start = lyapunov_lent_const(t->state, d);
     struct lyapunov_outputs outputs = lent(&by_struct, d, d);
 
-    keep(&by_struct, lyapunov_spectrum_at(&t->system, 2.5, start, &settings, &outputs));
+    note(&by_struct, lyapunov_spectrum_at(&t->system, 2.5, start, &settings, &outputs));
     lent(&flat, d, d);
     flat.number = lyapunov_estimate_spectrum_at(
-        SYSTEM_OF(t), 2.5, t->state, d, d, 0.0625, t->steps, WINDOWS, t->transient_windows, t->seed,
-        OUTPUTS_OF(&flat, d, d));
+        SYSTEM_OF(t), 2.5, t->state, d, SETTINGS_OF(t, WINDOWS), OUTPUTS_OF(&flat, d, d));
     check(flat.number == 0, "a run that is not refused", t->name);
     check((flat.counts[LYAPUNOV_FAINT] > 0) == (t->steps == 270), "faint windows", t->name);
     same(&by_struct, &flat, "lyapunov_spectrum_at", t->name);
 
     outputs = lent(&by_struct, d, d);
-    keep(&by_struct, lyapunov_spectrum(&t->system, start, &settings, &outputs));
+    note(&by_struct, lyapunov_spectrum(&t->system, start, &settings, &outputs));
     lent(&flat, d, d);
     flat.number = lyapunov_estimate_spectrum(
-        SYSTEM_OF(t), t->state, d, d, 0.0625, t->steps, WINDOWS, t->transient_windows, t->seed,
-        OUTPUTS_OF(&flat, d, d));
+        SYSTEM_OF(t), t->state, d, SETTINGS_OF(t, WINDOWS), OUTPUTS_OF(&flat, d, d));
     same(&by_struct, &flat, "lyapunov_spectrum", t->name);
 
     outputs = lent(&by_struct, 1, d);
-    keep(&by_struct, lyapunov_largest(&t->system, start, &settings.required, &outputs));
+    note(&by_struct, lyapunov_largest(&t->system, start, &settings.required, &outputs));
     lent(&flat, 1, d);
     flat.number = lyapunov_estimate_largest(
         SYSTEM_OF(t), t->state, d, 0.0625, t->steps, WINDOWS, OUTPUTS_OF(&flat, 1, d));
@@ -246,6 +246,85 @@ static void empty(const struct trial *t)
     check(refusal.number == 13 && refusal.place == 0, "no rows", t->name);
 }
 
+/* A store with memory around it, which no call may write. */
+struct guarded {
+    uint64_t before[2];
+    struct lyapunov_store store;
+    uint64_t behind[2];
+};
+
+static void emptied(struct guarded *guarded)
+{
+    memset(guarded, 0x5a, sizeof *guarded);
+    lyapunov_store_empty(&guarded->store);
+}
+
+static void guards(const struct guarded *guarded, const char *which)
+{
+    uint64_t around[2];
+    memset(around, 0x5a, sizeof around);
+    check(memcmp(guarded->before, around, sizeof around) == 0, "before the store", which);
+    check(memcmp(guarded->behind, around, sizeof around) == 0, "behind the store", which);
+}
+
+/* A keep of the first window, by structs and by flat arguments. */
+static void kept(const struct trial *t, struct guarded *by_struct, struct guarded *flat)
+{
+    const size_t d = t->dimension;
+    const struct lyapunov_settings settings = lyapunov_with_windows(settings_of(t), 1);
+    struct left left[2];
+    const struct lyapunov_outputs outputs = lent(&left[0], d, d);
+
+    lent(&left[1], d, d);
+    emptied(by_struct);
+    emptied(flat);
+    note(&left[0], lyapunov_store_keep(&by_struct->store, 200, &t->system, 2.5,
+                                       lyapunov_lent_const(t->state, d), &settings, &outputs));
+    left[1].number = lyapunov_keep(
+        flat->store.floats, flat->store.counts, 200, SYSTEM_OF(t), 2.5, t->state, d,
+        SETTINGS_OF(t, 1), OUTPUTS_OF(&left[1], d, d));
+    check(left[1].number == 0, "a keep that is not refused", t->name);
+    same(&left[0], &left[1], "lyapunov_store_keep", t->name);
+    left[1].number = lyapunov_estimate_spectrum_at(
+        SYSTEM_OF(t), 2.5, t->state, d, SETTINGS_OF(t, 1), OUTPUTS_OF(&left[1], d, d));
+    same(&left[0], &left[1], "a keep is the run", t->name);
+    check(memcmp(by_struct, flat, sizeof *flat) == 0, "what is kept", t->name);
+    guards(by_struct, t->name);
+}
+
+/* The other windows, in both ways, and the one run with its later rows from place 0. */
+static void gone_on(const struct trial *t)
+{
+    static struct guarded by_struct, flat;
+    const size_t d = t->dimension, width = LYAPUNOV_ROWS_LENGTH(d, 1);
+    const struct lyapunov_settings settings = lyapunov_with_windows(settings_of(t), WINDOWS - 1);
+    struct left left[3];
+    struct lyapunov_outputs outputs = lent(&left[0], d, d);
+
+    kept(t, &by_struct, &flat);
+    outputs.rows = lyapunov_lent(left[0].rows, lyapunov_rows_length(&settings));
+    note(&left[0], lyapunov_store_go_on(&by_struct.store, 200, &t->system, 2.5,
+                                        lyapunov_lent_const(t->state, d), &settings, &outputs));
+    lent(&left[1], d, d);
+    left[1].number = lyapunov_go_on(
+        flat.store.floats, flat.store.counts, 200, SYSTEM_OF(t), 2.5, t->state, d,
+        SETTINGS_OF(t, WINDOWS - 1), OUTPUTS_OF(&left[1], d, d));
+    check(left[1].number == 0, "a going on that is not refused", t->name);
+    same(&left[0], &left[1], "lyapunov_store_go_on", t->name);
+    lent(&left[2], d, d);
+    left[2].number = lyapunov_estimate_spectrum_at(
+        SYSTEM_OF(t), 2.5, t->state, d, SETTINGS_OF(t, WINDOWS), OUTPUTS_OF(&left[2], d, d));
+    memmove(left[2].rows, left[2].rows + width, (WINDOWS - 1) * width * sizeof(double));
+    memset(left[2].rows + (WINDOWS - 1) * width, 0x5a, width * sizeof(double));
+    same(&left[0], &left[2], "a going on is the end of the one run", t->name);
+    check(memcmp(&by_struct, &flat, sizeof flat) == 0, "the store stays", t->name);
+
+    outputs.rows.length -= 1;
+    note(&left[0], lyapunov_store_go_on(&by_struct.store, 200, &t->system, 2.5,
+                                        lyapunov_lent_const(t->state, d), &settings, &outputs));
+    check(left[0].number == 13 && left[0].counts[LYAPUNOV_PLACE] == 0, "a short row", t->name);
+}
+
 static void systems(void)
 {
     static const double turning[9] = {-0.5, 1.0, 0.0, -1.0, 0.25, 0.125, 0.0, -2.0, 0.75};
@@ -274,7 +353,114 @@ static void systems(void)
         steps(&trials[i]);
         validation(&trials[i]);
         empty(&trials[i]);
+        gone_on(&trials[i]);
     }
+}
+
+/* Keeps a Lorenz run of one window, or goes on from it, with these settings. */
+static struct lyapunov_estimate lorenz_in(struct lyapunov_store *store, uint8_t number,
+                                          int keeps, struct lyapunov_settings settings)
+{
+    static const double start[3] = {1.0, 1.0, 1.0};
+    const struct lyapunov_system system = lyapunov_lorenz(10.0, 28.0, 8.0 / 3.0);
+    const struct lyapunov_const_slice state = lyapunov_lent_const(start, 3);
+    struct left left;
+    const struct lyapunov_outputs outputs = lent(&left, 3, 3);
+
+    settings.required.windows = 1;
+    return keeps ? lyapunov_store_keep(store, number, &system, 0.0, state, &settings, &outputs)
+                 : lyapunov_store_go_on(store, number, &system, 0.0, state, &settings, &outputs);
+}
+
+static void refused_by(struct lyapunov_estimate estimate, uint64_t number, const char *what)
+{
+    const uint64_t none[LYAPUNOV_MAX_DIMENSION] = {0};
+    check(estimate.refusal.number == number && estimate.refusal.place == 0, what, "store");
+    check(estimate.finished_windows == 0 && estimate.steps == 0, "no windows or steps", "store");
+    check(memcmp(estimate.faint_counts, none, sizeof none) == 0, "no faint counts", "store");
+    check(estimate.final_time == 0.0 && estimate.measured_time == 0.0, "no times", "store");
+}
+
+static int forgets(struct lyapunov_store *store, uint8_t number, uint64_t refusal)
+{
+    const struct lyapunov_refusal answer = lyapunov_store_forget(store, number);
+    return answer.number == refusal && answer.place == 0;
+}
+
+/* Eight numbers are kept; settings that a run refuses are tested after the number. */
+static void filled(struct guarded *guarded, struct lyapunov_settings settings,
+                   struct lyapunov_settings unfit)
+{
+    static const uint8_t numbers[8] = {0, 255, 7, 128, 3, 127, 200, 1};
+    struct lyapunov_store *store = &guarded->store;
+    struct lyapunov_store before;
+    size_t i;
+
+    emptied(guarded);
+    for (i = 0; i < 256; i++)
+        check(forgets(store, (uint8_t)i, 26), "nothing to forget", "store");
+    for (i = 0; i < 8; i++) {
+        refused_by(lorenz_in(store, numbers[i], 0, unfit), 26, "nothing to go on from");
+        refused_by(lorenz_in(store, numbers[i], 1, unfit), 1, "a keep that is refused");
+        check(lorenz_in(store, numbers[i], 1, settings).steps == 10, "a keep", "store");
+        check(lorenz_in(store, numbers[i], 0, settings).steps == 20, "a going on", "store");
+    }
+    before = *store;
+    refused_by(lorenz_in(store, 2, 1, unfit), 27, "a ninth number");
+    refused_by(lorenz_in(store, 2, 0, unfit), 26, "a number that is not kept");
+    refused_by(lorenz_in(store, 7, 1, unfit), 1, "a refused keep of a kept number");
+    check(memcmp(&before, store, sizeof before) == 0, "refusals leave the store", "store");
+}
+
+/* Whatever the store holds, every call ends and writes nothing around it. */
+static void any_content(struct lyapunov_settings settings)
+{
+    static const unsigned char bytes[] = {0x00, 0x01, 0x40, 0x7f, 0xff};
+    static struct guarded guarded;
+    size_t i, number;
+
+    for (i = 0; i < sizeof bytes; i++) {
+        emptied(&guarded);
+        check(lorenz_in(&guarded.store, 7, 1, settings).steps == 10, "a keep", "store");
+        memset(guarded.store.floats, bytes[i], sizeof guarded.store.floats);
+        check(lorenz_in(&guarded.store, 7, 0, settings).refusal.number <= 27, "floats", "store");
+        memset(&guarded.store, bytes[i], sizeof guarded.store);
+        for (number = 0; number < 256; number++) {
+            const uint8_t under = (uint8_t)number;
+            check(lorenz_in(&guarded.store, under, 0, settings).refusal.number <= 27
+                      && lorenz_in(&guarded.store, under, 1, settings).refusal.number <= 27
+                      && lyapunov_store_forget(&guarded.store, under).number <= 27,
+                  "any content", "store");
+        }
+        guards(&guarded, "any content");
+    }
+}
+
+static void stores(void)
+{
+    static struct guarded guarded;
+    struct lyapunov_store *store = &guarded.store, copy;
+    struct lyapunov_required_settings needed = required(3, 0.0625, 10);
+    const struct lyapunov_settings settings = lyapunov_build_settings(&needed).settings;
+    struct lyapunov_settings unfit = settings;
+
+    check(LYAPUNOV_STORE_STATES == 8, "eight states", "store");
+    check(sizeof copy.floats == 2568 * sizeof(double), "length of the floats", "store");
+    check(sizeof copy.counts == 152 * sizeof(uint64_t), "length of the counts", "store");
+    unfit.required.top_k = 0;
+    filled(&guarded, settings, unfit);
+    copy = *store;
+    check(lorenz_in(store, 7, 1, settings).refusal.number == 0, "a kept number again", "store");
+    check(forgets(store, 128, 0) && forgets(store, 128, 26), "forgotten once", "store");
+    refused_by(lorenz_in(store, 128, 0, settings), 26, "a forgotten number");
+    check(lorenz_in(store, 2, 1, settings).refusal.number == 0, "a place used again", "store");
+    refused_by(lorenz_in(store, 128, 1, settings), 27, "eight numbers again");
+    check(lorenz_in(store, 200, 0, settings).steps == 20, "the others stay", "store");
+    check(lorenz_in(&copy, 128, 0, settings).steps == 20, "a copy keeps its own", "store");
+    lyapunov_store_empty(store);
+    refused_by(lorenz_in(store, 2, 0, settings), 26, "an emptied store");
+    guards(&guarded, "store");
+    any_content(settings);
 }
 
 /* The number of cells is tested before the state, which fits no ring. */
@@ -322,6 +508,10 @@ static void builder(void)
     changed = lyapunov_with_seed(built.settings, 9);
     check(changed.seed == 9 && changed.transient_windows == 0
               && memcmp(&changed.required, &needed, sizeof needed) == 0, "seed", "builder");
+    changed = lyapunov_with_windows(built.settings, 9);
+    needed.windows = 9;
+    check(changed.seed == LYAPUNOV_DEFAULT_SEED && changed.transient_windows == 0
+              && memcmp(&changed.required, &needed, sizeof needed) == 0, "windows", "builder");
 }
 
 static void refused(struct lyapunov_required_settings needed, uint64_t number, uint64_t place)
@@ -354,27 +544,30 @@ static void refused_settings(void)
 /* Each number has a sentence of its own. */
 static void texts(void)
 {
-    const char *unknown = lyapunov_refusal_text(26);
+    const char *unknown = lyapunov_refusal_text(28);
     uint64_t i, j;
-    for (i = 0; i <= 25; i++) {
+    for (i = 0; i <= 27; i++) {
         const char *text = lyapunov_refusal_text(i);
         check(strlen(text) > 10 && text[strlen(text) - 1] == '.', text, "a sentence");
         check(strcmp(text, unknown) != 0, text, "a known number");
         for (j = 0; j < i; j++)
             check(strcmp(text, lyapunov_refusal_text(j)) != 0, text, "another text");
     }
-    check(strcmp(unknown, "No refusal has this number.") == 0, unknown, "26");
+    check(strcmp(unknown, "No refusal has this number.") == 0, unknown, "28");
     check(lyapunov_refusal_text(UINT64_MAX) == unknown, unknown, "the largest number");
     check(strstr(lyapunov_refusal_text(14), "collapsed") != NULL, "collapse", "14");
     check(strstr(lyapunov_refusal_text(21), "256") != NULL, "rates", "21");
     check(strstr(lyapunov_refusal_text(24), "logarithm") != NULL, "logarithm", "24");
     check(strstr(lyapunov_refusal_text(25), "cells") != NULL, "cells", "25");
+    check(strstr(lyapunov_refusal_text(26), "No state") != NULL, "no such number", "26");
+    check(strstr(lyapunov_refusal_text(27), "Eight") != NULL, "eight others", "27");
 }
 
 int main(void)
 {
     systems();
     cells();
+    stores();
     builder();
     refused_settings();
     texts();

@@ -265,6 +265,137 @@ wrong "$(first '^run .*sys=lorenz96:.*num=0 ')" 'ring unknown' 'num, entry 0: 7,
 wrong "$(first '^run .*num=25 ')" 'cells accepted' 'lyapunov_estimate_spectrum_at: num, entry 0: 0'
 wrong "$(first '^run .*num=25 ')" 'input accepted' 'lyapunov_validate: num, entry 0: 0, listed 25'
 
+# States that are kept. A keep of the list and a going on from it stay right under any number, a keep is
+# what a run is, and what is refused before a run answers nothing else.
+lines() { # LINE...
+    printf '%s\n' "$@"
+}
+
+under() { # NUMBER LINE
+    sed -E "s/ number=[0-9]+ / number=$1 /" <<<"$2"
+}
+
+with() { # NAME VALUE LINE: another value handed in
+    sed -E "s/ $1=[^ ]* (.*->)/ $1=$2 \1/" <<<"$3"
+}
+
+as_keep() { # NUMBER RUN
+    sed -E "s/^run (id=[^ ]*) /keep \1 number=$1 /" <<<"$2"
+}
+
+refused_early() { # NUM PLACE LINE
+    local answer="num=$1 place=$2 finished=0 made=0 faint=0,0,0,0,0,0,0,0,0,0,0,0,0,0,0,0 ftime=- mtime=-"
+    sed -E -e "s/-> .* rows=/-> $answer rows=/" \
+        -e ":again; s/( (rows|exps|final)=[.,]*)$x/\1./; t again" <<<"$3"
+}
+
+forgotten() { # NUMBER NUM
+    echo "forget id=planted number=$1 -> num=$2 place=0"
+}
+
+a_keep_of() { # LINE: the last keep that it goes on from
+    local found
+    found=$(sed "/^${1%% sys=*} /q" tests/answers.txt | grep '^keep .* num=0 ' \
+        | grep -F " $(grep -o 'number=[0-9]*' <<<"$1") " | tail -1) || true
+    [ -n "$found" ] || fail "no keep before $1"
+    echo "$found"
+}
+
+emptied='empty id=planted ->'
+a_going_on=$(first "^go-on .* sys=(lorenz|rossler|vdp).* num=0 .* rows=[0-9a-f,]+ exps=$x")
+a_keep=$(under 7 "$(a_keep_of "$a_going_on")") a_going_on=$(under 7 "$a_going_on")
+refused_later=$(first "^go-on .*num=1[4678] .* finished=[1-9].* rows=$x")
+from_kept=$(lines "$emptied" "$a_keep" "$a_going_on")
+and_forgotten=$(lines "$from_kept" "$(forgotten 7 0)")
+full=$(echo "$emptied" && for number in 0 1 2 3 4 5 6 7; do under $number "$a_keep"; done)
+
+# Answers, numbers and lines that are not those of the store.
+for name in rows exps final; do
+    edited "$from_kept" "\$ s/( $name=)$x/\17ff8000000000000/" "lyapunov_go_on: $name, entry 0: "
+    edited "$from_kept" "\$ s/( $name=)$x/\1./" "lyapunov_go_on: $name, entry 0: written"
+    edited "$from_kept" "2 s/( $name=)$x/\17ff8000000000000/" "lyapunov_keep: $name, entry 0: "
+done
+for name in num place finished made faint; do
+    edited "$from_kept" "\$ s/( $name=)([0-9]*)/\19\2/" "lyapunov_go_on: $name"
+    edited "$from_kept" "2 s/( $name=)([0-9]*)/\19\2/" "lyapunov_keep: $name"
+done
+for name in ftime mtime; do
+    edited "$from_kept" "\$ s/( $name=)$x/\1-/" "lyapunov_go_on: $name, entry 0: "
+done
+edited "$and_forgotten" '$ s/num=0/num=26/' 'lyapunov_forget: num, entry 0: 0, listed 26'
+edited "$and_forgotten" '$ s/place=0/place=1/' 'lyapunov_forget: place: 0, listed 1'
+edited "$and_forgotten" '$ s/number=7/number=8/' 'lyapunov_forget: num, entry 0: 26, listed 0'
+edited "$from_kept" '$ s/number=7/number=8/' 'lyapunov_go_on: num, entry 0: 26, listed 0'
+edited "$from_kept" '/^keep/ d' 'lyapunov_go_on: num, entry 0: 26, listed 0'
+edited "$from_kept" '/^keep/ { p; s/.*/empty id=again ->/ }' 'lyapunov_go_on: num, entry 0: 26, listed 0'
+edited "$from_kept" '/^empty/ d' 'malformed line 1: no empty store before: '
+edited "$from_kept" '$ s/ number=7//' 'malformed line 3: field missing: number'
+edited "$from_kept" 's/number=7/number=256/' 'malformed line 2: no number of a state: 256'
+edited "$from_kept" 's/number=7/number=-1/' 'malformed line 2: no decimal number: -1'
+edited "$from_kept" '1 s/ ->/ number=7 ->/' 'malformed line 1: unknown field: number'
+edited "$and_forgotten" '$ s/ ->/ K=1 ->/' 'malformed line 4: unknown field: K'
+
+# Libraries that go on otherwise, or change what is kept.
+wrong "$from_kept" 'rows at their place' 'lyapunov_go_on: rows, entry 0: 5a5a5a5a5a5a5a5a'
+wrong "$from_kept" 'rows of the first' 'lyapunov_go_on: rows, entry 0: '
+wrong "$from_kept" 'exponents of the later' 'lyapunov_go_on: exps, entry 0: '
+wrong "$from_kept" 'finished of the later' 'lyapunov_go_on: finished, entry 0: '
+wrong "$from_kept" 'steps of the later' 'lyapunov_go_on: made, entry 0: '
+wrong "$from_kept" 'time of the later' 'lyapunov_go_on: mtime, entry 0: '
+wrong "$from_kept" 'going on keeps' 'lyapunov_go_on: memory of the input store_'
+wrong "$from_kept" 'going on forgets' 'lyapunov_go_on: memory of the input store_counts was written'
+wrong "$from_kept" 'store_floats kept' 'lyapunov_go_on: '
+wrong "$(lines "$emptied" "$(a_keep_of "$refused_later")" "$refused_later")" \
+    'refused rows left out' 'lyapunov_go_on: rows, entry 0: 5a5a5a5a5a5a5a5a'
+a_refused_keep=$(lines "$emptied" "$a_keep" "$(as_keep 7 "$(first "$late")")" "$a_going_on")
+for wrong_end in replaces forgets; do
+    wrong "$a_refused_keep" "refused keep $wrong_end" 'lyapunov_keep: store_'
+    wrong "$a_refused_keep" "refused keep $wrong_end" 'lyapunov_go_on: '
+done
+wrong "$(lines "$emptied" "$(as_keep 7 "$a_run")" "$a_keep" "$a_going_on")" 'first keep stays' 'lyapunov_go_on: '
+wrong "$(lines "$emptied" "$(under 200 "$a_keep")" "$(forgotten 72 26)")" \
+    'number of 7 bits' 'lyapunov_forget: num, entry 0: 0, listed 26'
+
+# Libraries that refuse otherwise, or forget otherwise.
+no_windows=$(refused_early 4 0 "$(with windows 0 "$a_going_on")")
+wrong "$(lines "$emptied" "$a_keep" "$no_windows")" '4 by the sum' 'lyapunov_go_on: num, entry 0: 0, listed 4'
+for windows in '16777216 the later' '18446744073709551615 a wrapped sum'; do
+    too_many=$(refused_early 5 1 "$(with windows "${windows%% *}" "$a_going_on")")
+    wrong "$(lines "$emptied" "$a_keep" "$too_many")" "5 by ${windows#* }" 'lyapunov_go_on: num, entry 0: 0, listed 5'
+done
+wrong "$from_kept" '13 by the sum' 'lyapunov_go_on: num, entry 0: 13, listed 0'
+none_kept=$(refused_early 26 0 "$a_going_on")
+wrong "$(lines "$emptied" "$none_kept")" '26 left out' 'lyapunov_go_on: num, entry 0: 0, listed 26'
+wrong "$(lines "$emptied" "$(with K 0 "$none_kept")")" '26 after settings' 'lyapunov_go_on: num, entry 0: 1, listed 26'
+ninth=$(refused_early 27 0 "$(under 8 "$a_keep")")
+wrong "$(lines "$full" "$ninth")" '27 left out' 'lyapunov_keep: num, entry 0: 0, listed 27'
+wrong "$(lines "$full" "$(with K 0 "$ninth")")" '27 after settings' 'lyapunov_keep: num, entry 0: 1, listed 27'
+wrong "$(lines "$full" "$a_keep")" '27 by itself' 'lyapunov_keep: num, entry 0: 27, listed 0'
+wrong "$(lines "$full" "$(forgotten 7 0)" "$(under 8 "$a_keep")")" \
+    '27 by forgotten' 'lyapunov_keep: num, entry 0: 27, listed 0'
+wrong "$and_forgotten" 'slot left' 'lyapunov_go_on: num once forgotten, entry 0: '
+wrong "$(lines "$full" "$(forgotten 0 0)" "$a_going_on")" 'all forgotten' 'lyapunov_go_on: num, entry 0: 26, listed 0'
+wrong "$(lines "$from_kept" "$(forgotten 8 26)")" 'forgetting accepted' 'lyapunov_forget: num, entry 0: 0, listed 26'
+wrong "$(lines "$from_kept" "$(forgotten 8 26)")" 'forgetting empties' 'lyapunov_forget: store_counts, entry '
+
+# Libraries that write beside the store, or beside what a kept run is lent.
+for where in before behind; do
+    wrong "$emptied" "store_counts $where" "lyapunov_empty_store: memory $where store_counts was written"
+    for call in keep go_on forget; do
+        wrong "$and_forgotten" "store_floats $where" "lyapunov_$call: memory $where store_floats was written"
+        wrong "$and_forgotten" "store_counts $where" "lyapunov_$call: memory $where store_counts was written"
+    done
+    for slice in rows exponents final_state counts times; do
+        wrong "$from_kept" "$slice $where" "lyapunov_keep: memory $where $slice was written"
+        wrong "$from_kept" "$slice $where" "lyapunov_go_on: memory $where $slice was written"
+    done
+done
+wrong "$emptied" 'store_counts kept' 'lyapunov_empty_store: store_counts, entry 0: '
+wrong "$and_forgotten" 'store_floats changed' 'lyapunov_forget: memory of the input store_floats was written'
+wrong "$from_kept" 'state changed' 'lyapunov_go_on: memory of the input x0 was written'
+wrong "$from_kept" 'counts kept' 'lyapunov_go_on: place: '
+wrong "$from_kept" 'times kept' 'lyapunov_go_on: ftime, entry 0: '
+
 # Programs: the right answer and then something else.
 stand_in() { # COMMAND MESSAGE: a program that runs the right one and then the command
     first '^prog .*out=refused_21' >"$list"

@@ -1,7 +1,8 @@
 /* Replays a list of inputs and answers against the static library: replay LIST SPECTRUM.
  * SPECTRUM is the program of that name, for the cases that are its input. The list says how its
  * lines read. A run from time 0 is asked of lyapunov_estimate_spectrum too, and of
- * lyapunov_estimate_largest where its settings are those that this sets.
+ * lyapunov_estimate_largest where its settings are those that this sets. A list has one store of
+ * kept states, which its lines change in their order.
  * Exit status: 0 every answer is met, 1 one is not, 2 the list or the usage is wrong. */
 #include <signal.h>
 #include <stdarg.h>
@@ -148,6 +149,16 @@ static circuit read_circuit(void) {
     return c;
 }
 
+/* The arguments of a circuit, of a run from its start on, and of its outputs. */
+#define CIRCUIT_OF(c) \
+    (c).kind, (c).p[0], (c).p[1], (c).p[2], (c).dimension, doubles((c).matrix), (c).matrix->length
+#define RUN_OF(r, o) \
+    doubles((r)->start), (r)->start->length, (r)->top_k, (r)->step_size, (r)->steps, \
+        (r)->windows, (r)->warm_up, (r)->seed, OUTPUTS_OF(o)
+#define OUTPUTS_OF(o) \
+    doubles((o)->rows), (o)->rows->length, doubles((o)->exponents), (o)->exponents->length, \
+        doubles((o)->state), (o)->state->length, words((o)->counts), doubles((o)->times)
+
 static int replay_root(void) {
     asked = "lyapunov_sqrt";
     return float_is("y", 0, bits_of(lyapunov_sqrt(number(given("x")))), bits(answered("y")));
@@ -197,12 +208,17 @@ static int replay_step(void) {
     const lent *place = lend("place", OUTPUT, 1);
     asked = "lyapunov_step";
     uint64_t num = lyapunov_step(
-        c.kind, c.p[0], c.p[1], c.p[2], c.dimension, doubles(c.matrix), c.matrix->length,
-        number(given("t")), doubles(state), state->length, doubles(directions),
+        CIRCUIT_OF(c), number(given("t")), doubles(state), state->length, doubles(directions),
         directions->length, decimal(given("count")), number(given("h")), words(place));
     return memory_kept() && refused_as(num, entry(place, 0)) && holds(state, "state") &&
            holds(directions, "dirs");
 }
+
+/* The store of a call, and the number under which it keeps. */
+typedef struct {
+    const lent *floats, *counts;
+    uint8_t number;
+} store;
 
 typedef struct {
     circuit circuit;
@@ -211,6 +227,7 @@ typedef struct {
     size_t top_k;
     double step_size;
     uint64_t steps, windows, warm_up, seed;
+    store store;
 } run;
 
 typedef struct {
@@ -233,37 +250,34 @@ static outputs lend_outputs(size_t rows, size_t exponents, size_t state) {
 }
 
 static uint64_t spectrum_at(const run *r, const outputs *o) {
-    const circuit *c = &r->circuit;
     asked = "lyapunov_estimate_spectrum_at";
-    return lyapunov_estimate_spectrum_at(
-        c->kind, c->p[0], c->p[1], c->p[2], c->dimension, doubles(c->matrix), c->matrix->length,
-        r->time, doubles(r->start), r->start->length, r->top_k, r->step_size, r->steps, r->windows,
-        r->warm_up, r->seed, doubles(o->rows), o->rows->length, doubles(o->exponents),
-        o->exponents->length, doubles(o->state), o->state->length, words(o->counts),
-        doubles(o->times));
+    return lyapunov_estimate_spectrum_at(CIRCUIT_OF(r->circuit), r->time, RUN_OF(r, o));
 }
 
 static uint64_t spectrum_from_zero(const run *r, const outputs *o) {
-    const circuit *c = &r->circuit;
     asked = "lyapunov_estimate_spectrum";
     by_spectrum++;
-    return lyapunov_estimate_spectrum(
-        c->kind, c->p[0], c->p[1], c->p[2], c->dimension, doubles(c->matrix), c->matrix->length,
-        doubles(r->start), r->start->length, r->top_k, r->step_size, r->steps, r->windows,
-        r->warm_up, r->seed, doubles(o->rows), o->rows->length, doubles(o->exponents),
-        o->exponents->length, doubles(o->state), o->state->length, words(o->counts),
-        doubles(o->times));
+    return lyapunov_estimate_spectrum(CIRCUIT_OF(r->circuit), RUN_OF(r, o));
 }
 
 static uint64_t largest(const run *r, const outputs *o) {
-    const circuit *c = &r->circuit;
     asked = "lyapunov_estimate_largest";
     by_largest++;
     return lyapunov_estimate_largest(
-        c->kind, c->p[0], c->p[1], c->p[2], c->dimension, doubles(c->matrix), c->matrix->length,
-        doubles(r->start), r->start->length, r->step_size, r->steps, r->windows, doubles(o->rows),
-        o->rows->length, doubles(o->exponents), o->exponents->length, doubles(o->state),
-        o->state->length, words(o->counts), doubles(o->times));
+        CIRCUIT_OF(r->circuit), doubles(r->start), r->start->length, r->step_size, r->steps,
+        r->windows, OUTPUTS_OF(o));
+}
+
+static uint64_t keep(const run *r, const outputs *o) {
+    asked = "lyapunov_keep";
+    return lyapunov_keep(doubles(r->store.floats), words(r->store.counts), r->store.number,
+                         CIRCUIT_OF(r->circuit), r->time, RUN_OF(r, o));
+}
+
+static uint64_t go_on(const run *r, const outputs *o) {
+    asked = "lyapunov_go_on";
+    return lyapunov_go_on(doubles(r->store.floats), words(r->store.counts), r->store.number,
+                          CIRCUIT_OF(r->circuit), r->time, RUN_OF(r, o));
 }
 
 /* Refusal 5 has the same place for other K and other lengths of the outputs. */
@@ -341,19 +355,16 @@ static int run_is(const run *r, uint64_t (*call)(const run *, const outputs *)) 
     return memory_kept() && refused_as(num, place) && counts_are(o.counts) &&
            time_is(entry(o.times, LYAPUNOV_FINAL_TIME), "ftime") &&
            time_is(entry(o.times, LYAPUNOV_MEASURED_TIME), "mtime") && holds(o.rows, "rows") &&
-           holds(o.exponents, "exps") && holds(o.state, "final") &&
-           (num != 5 || place_is_fixed(r, place));
+           holds(o.exponents, "exps") && holds(o.state, "final");
 }
 
 /* The tests 1 to 12 and 25 alone: they pass what is refused by a later one, or by none. */
 static int input_is(const run *r) {
-    const circuit *c = &r->circuit;
     const lent *place = lend("place", OUTPUT, 1);
     asked = "lyapunov_validate";
     uint64_t num = lyapunov_validate(
-        c->kind, c->p[0], c->p[1], c->p[2], c->dimension, doubles(c->matrix), c->matrix->length,
-        r->time, doubles(r->start), r->start->length, r->top_k, r->step_size, r->steps, r->windows,
-        r->warm_up, words(place));
+        CIRCUIT_OF(r->circuit), r->time, doubles(r->start), r->start->length, r->top_k,
+        r->step_size, r->steps, r->windows, r->warm_up, words(place));
     if (!memory_kept()) return 0;
     uint64_t listed = decimal(answered("num"));
     if (listed <= 12 || listed == 25) return refused_as(num, entry(place, 0));
@@ -375,10 +386,105 @@ static int replay_validate(void) {
 static int replay_run(void) {
     run r = read_run();
     if (!run_is(&r, spectrum_at) || !input_is(&r)) return 0;
+    if (decimal(answered("num")) == 5 && !place_is_fixed(&r, listed_place())) return 0;
     if (bits_of(r.time) != 0) return 1;
     if (!run_is(&r, spectrum_from_zero)) return 0;
     if (r.top_k != 1 || r.warm_up != 0 || r.seed != LYAPUNOV_DEFAULT_SEED) return 1;
     return run_is(&r, largest);
+}
+
+/* What the lines so far have left in the store, from the first `empty` on. Each call is lent a
+ * copy, at a place of its own. */
+static uint64_t left_floats[LYAPUNOV_STORE_FLOATS], left_counts[LYAPUNOV_STORE_COUNTS];
+static int has_store;
+
+static const lent *lend_words(const char *name, enum role role, const uint64_t *from, size_t n) {
+    lent *l = lend(name, role, n);
+    for (size_t i = 0; has_store && i < n; i++) set_entry(l, i, from[i]);
+    return l;
+}
+
+static store lend_store(enum role floats, enum role counts, uint8_t number) {
+    return (store){lend_words("store_floats", floats, left_floats, LYAPUNOV_STORE_FLOATS),
+                   lend_words("store_counts", counts, left_counts, LYAPUNOV_STORE_COUNTS), number};
+}
+
+static store given_store(enum role floats, enum role counts) {
+    uint64_t number = decimal(given("number"));
+    if (!has_store) malformed("no empty store before", given("id"));
+    if (number > UINT8_MAX) malformed("no number of a state", given("number"));
+    return lend_store(floats, counts, (uint8_t)number);
+}
+
+/* What a call left in its store is what the next one is lent. */
+static void take_back(const store *s) {
+    for (size_t i = 0; i < s->floats->length; i++) left_floats[i] = entry(s->floats, i);
+    for (size_t i = 0; i < s->counts->length; i++) left_counts[i] = entry(s->counts, i);
+}
+
+static int stays(const lent *l) {
+    for (size_t i = 0; i < l->length; i++)
+        if (entry(l, i) != entry_before(l, i))
+            return differs("%s, entry %zu: changed, although refused", l->name, i);
+    return 1;
+}
+
+static int all_zero(const lent *l) {
+    for (size_t i = 0; i < l->length; i++)
+        if (!number_is(l->name, i, entry(l, i), 0)) return 0;
+    return 1;
+}
+
+/* No number is kept in an empty store. */
+static int replay_empty(void) {
+    store s = lend_store(INPUT, BOTH, 0);
+    asked = "lyapunov_empty_store";
+    lyapunov_empty_store(words(s.counts));
+    take_back(&s);
+    has_store = 1;
+    if (!memory_kept() || !all_zero(s.counts)) return 0;
+    asked = "lyapunov_forget";
+    for (unsigned n = 0; n <= UINT8_MAX; n++) {
+        uint64_t num = lyapunov_forget(doubles(s.floats), words(s.counts), (uint8_t)n);
+        if (!number_is("num of an empty store", n, num, 26)) return 0;
+    }
+    return memory_kept() && all_zero(s.counts);
+}
+
+/* It answers what the run does, unless it is refused by 27. */
+static int replay_keep(void) {
+    run r = read_run();
+    r.store = given_store(BOTH, BOTH);
+    int met = run_is(&r, keep);
+    uint64_t num = decimal(answered("num"));
+    take_back(&r.store);
+    if (!met || (num != 0 && (!stays(r.store.floats) || !stays(r.store.counts)))) return 0;
+    return num == 27 || run_is(&r, spectrum_at);
+}
+
+static int replay_go_on(void) {
+    run r = read_run();
+    r.store = given_store(INPUT, INPUT);
+    return run_is(&r, go_on);
+}
+
+/* A going on from it is refused by 26, with settings and slices that the other tests refuse too. */
+static int is_not_kept(uint8_t number) {
+    run r = {.circuit.matrix = lend("mat", INPUT, 0), .start = lend("x0", INPUT, 0)};
+    outputs o = lend_outputs(0, 0, 0);
+    r.store = lend_store(INPUT, INPUT, number);
+    uint64_t num = go_on(&r, &o);
+    return memory_kept() && number_is("num once forgotten", 0, num, 26) && all_zero(o.counts) &&
+           all_zero(o.times);
+}
+
+static int replay_forget(void) {
+    store s = given_store(INPUT, BOTH);
+    asked = "lyapunov_forget";
+    uint64_t num = lyapunov_forget(doubles(s.floats), words(s.counts), s.number);
+    take_back(&s);
+    return memory_kept() && refused_as(num, 0) && (num == 0 || stays(s.counts)) &&
+           is_not_kept(s.number);
 }
 
 static int replay_rates(void) {
@@ -461,7 +567,8 @@ static int replay(char *line) {
         {"root", replay_root}, {"log", replay_log},     {"draw", replay_draw},
         {"orth", replay_orth}, {"step", replay_step},   {"build", replay_build},
         {"run", replay_run},   {"rates", replay_rates}, {"prog", replay_program},
-        {"validate", replay_validate}};
+        {"validate", replay_validate}, {"empty", replay_empty}, {"keep", replay_keep},
+        {"go-on", replay_go_on}, {"forget", replay_forget}};
     const char *kind = read_line(line), *id = given("id");
     for (size_t i = 0; i < sizeof kinds / sizeof *kinds; i++) {
         if (strcmp(kind, kinds[i].name) != 0) continue;

@@ -10,6 +10,10 @@
 #define lyapunov_estimate_spectrum_at __real_lyapunov_estimate_spectrum_at
 #define lyapunov_estimate_spectrum __real_lyapunov_estimate_spectrum
 #define lyapunov_estimate_largest __real_lyapunov_estimate_largest
+#define lyapunov_empty_store __real_lyapunov_empty_store
+#define lyapunov_keep __real_lyapunov_keep
+#define lyapunov_go_on __real_lyapunov_go_on
+#define lyapunov_forget __real_lyapunov_forget
 #define lyapunov_kaplan_yorke_dimension __real_lyapunov_kaplan_yorke_dimension
 #define lyapunov_kolmogorov_sinai_entropy __real_lyapunov_kolmogorov_sinai_entropy
 #include "lyapunov.h"
@@ -18,7 +22,7 @@
 #include <stdlib.h>
 #include <string.h>
 
-enum { MOST_SLICES = 8, MOST_ENTRIES = 1024 };
+enum { MOST_SLICES = 9, MOST_ENTRIES = LYAPUNOV_STORE_FLOATS };
 
 static struct {
     const char *name;
@@ -33,6 +37,10 @@ static int is_wrong(const char *name, const char *how) {
     const char *wrong = getenv("WRONG");
     snprintf(text, sizeof text, "%s %s", name, how);
     return wrong != NULL && strcmp(wrong, text) == 0;
+}
+
+static void undo(size_t i) {
+    memcpy(slices[i].at, slices[i].before, 8 * slices[i].length);
 }
 
 static void handed(const char *name, const void *at, size_t length) {
@@ -53,7 +61,7 @@ static uint64_t spoiled(uint64_t number) {
         if (is_wrong(slices[i].name, "before")) memcpy(at - 8, &one, 8);
         if (is_wrong(slices[i].name, "behind")) memcpy(at + bytes, &one, 8);
         if (is_wrong(slices[i].name, "changed")) memcpy(at, &one, 8);
-        if (is_wrong(slices[i].name, "kept")) memcpy(at, slices[i].before, bytes);
+        if (is_wrong(slices[i].name, "kept")) undo(i);
     }
     return number;
 }
@@ -157,31 +165,37 @@ uint64_t __wrap_lyapunov_validate(
     return spoiled(n);
 }
 
-static void handed_run(
-    const double *matrix, size_t matrix_len, const double *state, size_t state_len, double *rows,
-    size_t rows_len, double *exponents, size_t exponents_len, double *final_state,
-    size_t final_state_len, uint64_t *counts, double *times) {
-    handed("matrix", matrix, matrix_len);
-    handed("state", state, state_len);
-    handed("rows", rows, rows_len);
-    handed("exponents", exponents, exponents_len);
-    handed("final_state", final_state, final_state_len);
-    handed("counts", counts, LYAPUNOV_COUNTS);
-    handed("times", times, LYAPUNOV_TIMES);
-}
+/* The parameters of a run, and the same as arguments, with so many windows. */
+#define RUN_PARAMETERS \
+    uint64_t kind, double p0, double p1, double p2, size_t dimension, const double *matrix, \
+        size_t matrix_len, double time, const double *state, size_t state_len, size_t top_k, \
+        double step_size, uint64_t steps_per_window, uint64_t windows, \
+        uint64_t transient_windows, uint64_t seed, double *rows, size_t rows_len, \
+        double *exponents, size_t exponents_len, double *final_state, size_t final_state_len, \
+        uint64_t *counts, double *times
+#define INPUTS_FOR(windows) \
+    kind, p0, p1, p2, dimension, matrix, matrix_len, time, state, state_len, top_k, step_size, \
+        steps_per_window, windows, transient_windows, seed
+#define OUTPUTS \
+    rows, rows_len, exponents, exponents_len, final_state, final_state_len, counts, times
 
-uint64_t __wrap_lyapunov_estimate_spectrum_at(
-    uint64_t kind, double p0, double p1, double p2, size_t dimension, const double *matrix,
-    size_t matrix_len, double time, const double *state, size_t state_len, size_t top_k,
-    double step_size, uint64_t steps_per_window, uint64_t windows, uint64_t transient_windows,
-    uint64_t seed, double *rows, size_t rows_len, double *exponents, size_t exponents_len,
-    double *final_state, size_t final_state_len, uint64_t *counts, double *times) {
-    handed_run(matrix, matrix_len, state, state_len, rows, rows_len, exponents, exponents_len,
-               final_state, final_state_len, counts, times);
-    uint64_t n = lyapunov_estimate_spectrum_at(
-        taken(kind), p0, p1, p2, dimension, matrix, matrix_len, time, state, state_len, top_k,
-        step_size, steps_per_window, windows, transient_windows, seed, rows, rows_len, exponents,
-        exponents_len, final_state, final_state_len, counts, times);
+/* In this order, behind the two arrays of a store where there is one. */
+enum { STORE_FLOATS, STORE_COUNTS, ROWS = 4 };
+#define HANDED_RUN() \
+    do { \
+        handed("matrix", matrix, matrix_len); \
+        handed("state", state, state_len); \
+        handed("rows", rows, rows_len); \
+        handed("exponents", exponents, exponents_len); \
+        handed("final_state", final_state, final_state_len); \
+        handed("counts", counts, LYAPUNOV_COUNTS); \
+        handed("times", times, LYAPUNOV_TIMES); \
+    } while (0)
+
+uint64_t __wrap_lyapunov_estimate_spectrum_at(RUN_PARAMETERS) {
+    HANDED_RUN();
+    kind = taken(kind);
+    uint64_t n = lyapunov_estimate_spectrum_at(INPUTS_FOR(windows), OUTPUTS);
     if (n == 5 && top_k == 17 && is_wrong("place", "by K")) counts[LYAPUNOV_PLACE] = 2;
     if (n == 5 && rows_len == 600 && is_wrong("place", "by outputs")) counts[LYAPUNOV_PLACE] = 2;
     put_later("estimate_spectrum_at", n, counts + LYAPUNOV_PLACE, steps_per_window, windows,
@@ -218,6 +232,174 @@ uint64_t __wrap_lyapunov_estimate_largest(
         exponents_len, final_state, final_state_len, counts, times);
     put_later("estimate_largest", n, counts + LYAPUNOV_PLACE, steps_per_window, windows, 0);
     return n;
+}
+
+/* The windows after which each number is kept, 0 where it is not; and those that ever were. */
+static uint64_t kept_after[256];
+static int ever_kept[256];
+
+/* Outputs of a run that nobody sees. */
+static struct {
+    double rows[1 << 16], exponents[16], final_state[16], times[LYAPUNOV_TIMES];
+    uint64_t counts[LYAPUNOV_COUNTS];
+} unseen;
+#define UNSEEN \
+    unseen.rows, sizeof unseen.rows / sizeof *unseen.rows, unseen.exponents, 16, \
+        unseen.final_state, 16, unseen.counts, unseen.times
+
+static size_t kept_numbers(void) {
+    size_t kept = 0;
+    for (size_t i = 0; i < 256; i++) kept += kept_after[i] > 0;
+    return kept;
+}
+
+static size_t numbers_ever_kept(void) {
+    size_t kept = 0;
+    for (size_t i = 0; i < 256; i++) kept += (size_t)ever_kept[i];
+    return kept;
+}
+
+static uint8_t read_number(uint8_t number) {
+    return is_wrong("number of", "7 bits") ? number & 127 : number;
+}
+
+/* Refuses before anything is written. */
+static uint64_t refuse(uint64_t number, uint64_t place, uint64_t *counts, double *times) {
+    memset(counts, 0, LYAPUNOV_COUNTS * sizeof *counts);
+    counts[LYAPUNOV_PLACE] = place;
+    times[LYAPUNOV_FINAL_TIME] = times[LYAPUNOV_MEASURED_TIME] = 0.0;
+    return number;
+}
+
+void __wrap_lyapunov_empty_store(uint64_t *store_counts) {
+    handed("store_counts", store_counts, LYAPUNOV_STORE_COUNTS);
+    lyapunov_empty_store(store_counts);
+    memset(kept_after, 0, sizeof kept_after);
+    memset(ever_kept, 0, sizeof ever_kept);
+    spoiled(0);
+}
+
+uint64_t __wrap_lyapunov_forget(const double *store_floats, uint64_t *store_counts,
+                                uint8_t number) {
+    handed("store_floats", store_floats, LYAPUNOV_STORE_FLOATS);
+    handed("store_counts", store_counts, LYAPUNOV_STORE_COUNTS);
+    uint64_t n = lyapunov_forget(store_floats, store_counts, read_number(number));
+    if (n == 0) kept_after[number] = 0;
+    if (n == 0 && is_wrong("slot", "left")) undo(STORE_COUNTS);
+    if (n == 0 && is_wrong("all", "forgotten")) lyapunov_empty_store(store_counts);
+    if (n == 26 && is_wrong("forgetting", "accepted")) n = 0;
+    if (n == 26 && is_wrong("forgetting", "empties")) lyapunov_empty_store(store_counts);
+    return spoiled(n);
+}
+
+/* A refusal 27 that is due to the number itself or to a forgotten one. */
+static int refused_by_27(uint8_t number) {
+    if (is_wrong("27 by", "itself")) return kept_numbers() == LYAPUNOV_STORE_STATES;
+    if (!is_wrong("27 by", "forgotten") || kept_after[number] > 0) return 0;
+    return numbers_ever_kept() >= LYAPUNOV_STORE_STATES;
+}
+
+uint64_t __wrap_lyapunov_keep(double *store_floats, uint64_t *store_counts, uint8_t number,
+                              RUN_PARAMETERS) {
+    handed("store_floats", store_floats, LYAPUNOV_STORE_FLOATS);
+    handed("store_counts", store_counts, LYAPUNOV_STORE_COUNTS);
+    HANDED_RUN();
+    uint8_t under = read_number(number);
+    uint64_t place, n;
+    if (refused_by_27(number)) return spoiled(refuse(27, 0, counts, times));
+    n = lyapunov_keep(store_floats, store_counts, under, INPUTS_FOR(windows), OUTPUTS);
+    uint64_t test = lyapunov_build_config(top_k, step_size, steps_per_window, windows, &place);
+    if (n == 27 && test != 0 && is_wrong("27 after", "settings"))
+        n = refuse(test, place, counts, times);
+    if (n == 27 && is_wrong("27", "left out"))
+        n = lyapunov_estimate_spectrum_at(INPUTS_FOR(windows), OUTPUTS);
+    if (n == 0 && kept_after[number] > 0 && is_wrong("first keep", "stays")) {
+        undo(STORE_FLOATS);
+        undo(STORE_COUNTS);
+    }
+    if (n != 0 && n != 27 && is_wrong("refused keep", "forgets"))
+        lyapunov_forget(store_floats, store_counts, under);
+    if (n != 0 && n != 27 && is_wrong("refused keep", "replaces"))
+        lyapunov_keep(store_floats, store_counts, under,
+                      INPUTS_FOR(counts[LYAPUNOV_FINISHED]), UNSEEN);
+    if (n == 0) kept_after[number] = windows;
+    if (n == 0) ever_kept[number] = 1;
+    return spoiled(n);
+}
+
+/* What a going on leaves, for the functions that spoil it. */
+struct gone_on {
+    uint64_t before, later, steps;
+    size_t width, rows_len;
+    double *rows, *exponents, *times;
+    uint64_t *counts;
+};
+
+/* Rows where they stand in the one run, as far as there is room. */
+static void put_rows_at_their_place(const struct gone_on *g) {
+    size_t skipped = (size_t)g->before * g->width, all = (size_t)g->later * g->width;
+    size_t i = all + skipped < g->rows_len ? all + skipped : g->rows_len;
+    for (; i > skipped; i--) g->rows[i - 1] = g->rows[i - 1 - skipped];
+    for (i = 0; i < skipped && i < g->rows_len; i++)
+        memset(&g->rows[i], 0x5a, sizeof *g->rows);
+}
+
+/* Answers of the later windows alone. */
+static void leave_out_the_kept(const struct gone_on *g) {
+    size_t top_k = (g->width - 1) / 2;
+    if (is_wrong("rows at", "their place")) put_rows_at_their_place(g);
+    if (is_wrong("finished", "of the later")) g->counts[LYAPUNOV_FINISHED] -= g->before;
+    if (is_wrong("steps", "of the later")) g->counts[LYAPUNOV_STEPS] -= g->before * g->steps;
+    if (is_wrong("time", "of the later"))
+        g->times[LYAPUNOV_MEASURED_TIME] *= (double)g->later / (double)(g->before + g->later);
+    if (!is_wrong("exponents", "of the later")) return;
+    for (size_t i = 0; i < top_k; i++) {
+        double sum = 0.0;
+        for (size_t w = 0; w < g->later; w++) sum += g->rows[w * g->width + 1 + i];
+        g->exponents[i] = sum / (double)g->later;
+    }
+}
+
+/* Counts that are tested otherwise: b for a + b, a + b for b. */
+static uint64_t tested_otherwise(uint64_t n, const struct gone_on *g) {
+    int within = g->later <= LYAPUNOV_MAX_COUNT, wraps = g->before + g->later < g->before;
+    if (n == 4 && is_wrong("4 by", "the sum")) n = 0;
+    if (n == 5 && g->counts[LYAPUNOV_PLACE] == 1) {
+        if (within && is_wrong("5 by", "the later")) n = 0;
+        if (wraps && is_wrong("5 by", "a wrapped sum")) n = 0;
+    }
+    if (n == 0 && g->rows_len < g->width * (g->before + g->later) && is_wrong("13 by", "the sum"))
+        n = refuse(13, 0, g->counts, g->times);
+    return n;
+}
+
+uint64_t __wrap_lyapunov_go_on(const double *store_floats, const uint64_t *store_counts,
+                               uint8_t number, RUN_PARAMETERS) {
+    double *floats = (double *)(uintptr_t)store_floats;
+    uint64_t *slots = (uint64_t *)(uintptr_t)store_counts, place, n;
+    uint8_t under = read_number(number);
+    struct gone_on g = {kept_after[number], windows, steps_per_window, 1 + 2 * top_k, rows_len,
+                        rows, exponents, times, counts};
+    handed("store_floats", floats, LYAPUNOV_STORE_FLOATS);
+    handed("store_counts", slots, LYAPUNOV_STORE_COUNTS);
+    HANDED_RUN();
+    n = lyapunov_go_on(floats, slots, under, INPUTS_FOR(windows), OUTPUTS);
+    uint64_t test = lyapunov_build_config(top_k, step_size, steps_per_window, windows, &place);
+    if (n == 26 && test != 0 && is_wrong("26 after", "settings"))
+        n = refuse(test, place, counts, times);
+    if (n == 26 && is_wrong("26", "left out"))
+        n = lyapunov_estimate_spectrum_at(INPUTS_FOR(windows), OUTPUTS);
+    n = tested_otherwise(n, &g);
+    if (n == 0) leave_out_the_kept(&g);
+    if (n == 0 && is_wrong("rows of", "the first")) {
+        lyapunov_estimate_spectrum_at(INPUTS_FOR(windows), UNSEEN);
+        memcpy(rows, unseen.rows, windows * g.width * sizeof *rows);
+    }
+    if (n == 0 && is_wrong("going on", "keeps"))
+        lyapunov_keep(floats, slots, under, INPUTS_FOR(g.before + windows), UNSEEN);
+    if (n == 0 && is_wrong("going on", "forgets")) lyapunov_forget(floats, slots, under);
+    if (n > 13 && n < 19 && is_wrong("refused rows", "left out")) undo(ROWS);
+    return spoiled(n);
 }
 
 uint64_t __wrap_lyapunov_kaplan_yorke_dimension(

@@ -53,13 +53,22 @@ fn built_archive(root: &Path) -> PathBuf {
     root.join("target/staticlib/liblyapunov.a")
 }
 
+/// The types that an exported function answers.
+const RESULTS: [&str; 3] = ["uint64_t", "double", "void"];
+
+/// Whether `line` begins the declaration of a function that answers a `result`.
+fn starts(line: &str, result: &str) -> bool {
+    let rest = line.strip_prefix(result);
+    rest.is_some_and(|rest| rest.starts_with(" lyapunov_"))
+}
+
 /// The header's exported functions in Rust. Their declarations begin a line, which those of its
 /// inline functions do not.
 fn declarations(header: &str) -> String {
     let mut text = String::from("extern \"C\" {\n");
     for (at, _) in header.match_indices('\n') {
         let line = &header[at + 1..];
-        if line.starts_with("uint64_t lyapunov_") || line.starts_with("double lyapunov_") {
+        if RESULTS.iter().any(|result| starts(line, result)) {
             let (declared, _) = line.split_once(';').expect("the end of a declaration");
             text.push_str(&declaration(declared));
         }
@@ -87,12 +96,15 @@ fn typed(text: &str) -> (&'static str, String) {
     let words: Vec<&str> = spaced.split_whitespace().collect();
     let (name, kind) = words.split_last().expect("a type and a name");
     let kind = match kind.join(" ").as_str() {
+        "void" => "()",
         "double" => "f64",
+        "uint8_t" => "u8",
         "uint64_t" => "u64",
         "size_t" => "usize",
         "double *" => "*mut f64",
         "const double *" => "*const f64",
         "uint64_t *" => "*mut u64",
+        "const uint64_t *" => "*const u64",
         other => panic!("no type of Rust for {other} of {name}"),
     };
     (kind, name.to_string())

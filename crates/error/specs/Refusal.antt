@@ -2,7 +2,7 @@
 use Prim.Native.Nat.{ℕ}
 use mathlib.Core.Option.{Option, none, some}
 use Rattle.error.specs.declared.LyapunovError.{LyapunovError}
-use Rattle.error.specs.declared.LyapunovError.the-variants.{ZeroTopK, InvalidStepSize, ZeroStepsPerWindow, ZeroWindows, CountAboveLimit, InvalidInitialTime, ZeroDimension, DimensionAboveLimit, MatrixMismatch, StateMismatch, NonFiniteInitialState, InvalidExponentCount, OutputTooShort, DegenerateTangent, InvalidWindowDuration, NonFiniteState, NonFiniteTangent, InvalidTime, TangentMismatch, NoExponents, TooManyExponents, NonFiniteExponent, IncompleteBytes, LogarithmDomain, TooFewCells}
+use Rattle.error.specs.declared.LyapunovError.the-variants.{ZeroTopK, InvalidStepSize, ZeroStepsPerWindow, ZeroWindows, CountAboveLimit, InvalidInitialTime, ZeroDimension, DimensionAboveLimit, MatrixMismatch, StateMismatch, NonFiniteInitialState, InvalidExponentCount, OutputTooShort, DegenerateTangent, InvalidWindowDuration, NonFiniteState, NonFiniteTangent, InvalidTime, TangentMismatch, NoExponents, TooManyExponents, NonFiniteExponent, IncompleteBytes, LogarithmDomain, TooFewCells, NoSuchNumber, StoreFull}
 use Rattle.error.specs.declared.Outcome.{Outcome}
 use Rattle.error.specs.declared.Outcome.the-variants.{Accepted, Refused}
 use Rattle.error.specs.declared.Refusal.{Refusal}
@@ -37,6 +37,8 @@ refusal IncompleteBytes = refuse 23 0
 refusal LogarithmDomain = refuse 24 0
 -- added by document 02
 refusal TooFewCells = refuse 25 0
+refusal NoSuchNumber = refuse 26 0
+refusal StoreFull = refuse 27 0
 
 -- what an outcome reports: that nothing is refused, or what is
 abbrev pub reported : Outcome → Option Refusal

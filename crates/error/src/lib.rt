@@ -9,7 +9,7 @@ ghost use Rattle.error.specs.Refusal as Spec;
 ghost use Rattle.error.specs.Tests as Tests;
 ghost use Rattle.error.specs.Tests.{_else_};
 
-// A variant holds its place where document 01 gives it one. The source's names are kept where it has the variant.
+// A variant holds its place where document 01 or 02 gives it one. The source's names are kept where it has the variant.
 pub enum LyapunovError {
     ZeroTopK,
     InvalidStepSize,
@@ -36,6 +36,8 @@ pub enum LyapunovError {
     IncompleteBytes,
     LogarithmDomain,
     TooFewCells,
+    NoSuchNumber,
+    StoreFull,
 }
 
 // What a call answers that may be refused and has no value to give.
@@ -81,6 +83,8 @@ pub fn number(error: LyapunovError) -> u64
         LyapunovError::IncompleteBytes => 23,
         LyapunovError::LogarithmDomain => 24,
         LyapunovError::TooFewCells => 25,
+        LyapunovError::NoSuchNumber => 26,
+        LyapunovError::StoreFull => 27,
     }
 }
 

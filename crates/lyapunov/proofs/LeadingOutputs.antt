@@ -11,7 +11,7 @@ use Rattle.error.specs.declared.Refusal.{Refusal}
 use Rattle.benettin.specs.Outputs.{Estimated, estimated}
 use Rattle.benettin.proofs.LeadingOutputs as Library
 use Rattle.benettin.proofs.Reading.{NotZero, estimated-number}
-use Rattle.lyapunov.specs.Interface.{Call, Returns, counts, times}
+use Rattle.interface.specs.Interface.{Call, Returns, counts, times}
 use Rattle.lyapunov.specs.LeadingOutputs.{refusal-of, received, as-call, Faithful, LeadingOutputs}
 
 refusal-back : (o : Option Refusal) → NotZero o → refusal-of (number-of o) (place-of o) ≡ o

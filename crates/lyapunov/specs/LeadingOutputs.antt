@@ -13,7 +13,7 @@ use Rattle.benettin.specs.Estimate.{Input}
 use Rattle.benettin.specs.LeadingSpectrum.{leading, RefusedFrom, number}
 use Rattle.benettin.specs.LeadingOutputs.{read}
 use Rattle.benettin.specs.Outputs as Outputs
-use Rattle.lyapunov.specs.Interface.{Call, Meets}
+use Rattle.interface.specs.Interface.{Call, Meets}
 
 -- 0 is no refusal
 abbrev pub refusal-of : ℕ → ℕ → Option Refusal

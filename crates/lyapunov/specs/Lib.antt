@@ -1,4 +1,3 @@
--- What the contracts cite, demand 3 of calls from C, and document 01's marked examples of all crates.
-pub mod Interface
+-- Demand 3 of calls from C, and document 01's marked examples of all crates.
 pub mod LeadingOutputs
 pub mod Marked

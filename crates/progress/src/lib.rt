@@ -1,5 +1,5 @@
-// A run under way: begin, one window, one measured window with its row. Crate course has the loops over
-// windows, and crate estimator the whole run over them.
+// A run under way: begin, one window, one measured window with its row. Crate course has the loops over windows, and
+// crate estimator the whole run over them.
 //
 // These functions are `pub` because other crates of ours go on with a run: each has a `requires`, which says what passed the
 // tests and how long the slices are. What a run carries lies in a `Progress` and in three slices: the state, the directions

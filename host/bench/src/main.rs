@@ -3,6 +3,7 @@
 
 mod fixed;
 mod growth;
+mod kept;
 mod orthonormaliser;
 mod problem;
 mod race;
@@ -31,6 +32,7 @@ fn main() -> ExitCode {
     })
     .and_then(|()| table("the hardware", || Ok(vec![root::race()])))
     .and_then(|()| table("plain Rust with the dimension fixed", fixed::races))
+    .and_then(|()| table("a plain run", kept::races))
     .and_then(|()| growth::tables());
     match measured {
         Ok(()) => ExitCode::SUCCESS,

@@ -2,7 +2,7 @@
 //! is at hand. The source's vector of logarithms is part of its call.
 
 use crate::problem::linear;
-use crate::race::{same_bits, Race, Reference};
+use crate::race::{same_bits, Race, Reference, Target};
 use oracle::{End, Source};
 use std::hint::black_box;
 
@@ -36,7 +36,7 @@ fn race(source: Reference, size: usize, calls: usize) -> Result<Race, String> {
     let (mut work, mut numbers) = (directions.clone(), vec![0.0; 2 * size]);
     Ok(Race {
         name,
-        target: Some(1.0),
+        target: Some(Target::Ratio(1.0)),
         calls,
         library: Box::new(move || {
             for _ in 0..calls {

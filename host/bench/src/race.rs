@@ -1,5 +1,6 @@
 //! Two sides, timed in turn.
 
+use std::fmt;
 use std::time::Instant;
 
 /// How often each side is timed. Many short turns find moments in which nothing else runs.
@@ -10,10 +11,41 @@ type Side = Box<dyn FnMut()>;
 /// The Rust source, where it is at hand.
 pub type Reference = Option<&'static dyn oracle::Source>;
 
+/// The most that is aimed at.
+#[derive(Clone, Copy)]
+pub enum Target {
+    Ratio(f64),
+    /// So many nanoseconds a call more than the other side.
+    More(f64),
+}
+
+impl Target {
+    /// What it is compared with, of the nanoseconds of both sides.
+    fn measured(self, library: f64, other: f64) -> Self {
+        match self {
+            Self::Ratio(_) => Self::Ratio(library / other),
+            Self::More(_) => Self::More(library - other),
+        }
+    }
+
+    fn limit(self) -> f64 {
+        let (Self::Ratio(limit) | Self::More(limit)) = self;
+        limit
+    }
+}
+
+impl fmt::Display for Target {
+    fn fmt(&self, out: &mut fmt::Formatter<'_>) -> fmt::Result {
+        match self {
+            Self::Ratio(ratio) => write!(out, "{ratio:.2}"),
+            Self::More(more) => write!(out, "{more:+.0} ns"),
+        }
+    }
+}
+
 pub struct Race {
     pub name: String,
-    /// The largest ratio that is aimed at.
-    pub target: Option<f64>,
+    pub target: Option<Target>,
     /// Calls in one go of a side.
     pub calls: usize,
     pub library: Side,
@@ -25,22 +57,21 @@ impl Race {
     pub fn run(mut self) -> String {
         let (library, other) = least(&mut self.library, self.other.as_mut());
         let each = |seconds: f64| seconds * 1e9 / self.calls as f64;
-        let target = self.target.map_or(String::new(), |x| format!("{x:.2}"));
-        let name = &self.name;
-        let Some(other) = other else {
-            return format!("| {name} | {:.1} | – | – | {target} | |", each(library));
+        let target = self
+            .target
+            .map_or(String::new(), |target| target.to_string());
+        let (name, library) = (&self.name, each(library));
+        let Some(other) = other.map(each) else {
+            return format!("| {name} | {library:.1} | – | – | {target} | |");
         };
-        let ratio = library / other;
+        let wanted = self.target.unwrap_or(Target::Ratio(f64::INFINITY));
+        let measured = wanted.measured(library, other);
         let met = match self.target {
-            Some(target) if ratio <= target => "met",
+            Some(target) if measured.limit() <= target.limit() => "met",
             Some(_) => "missed",
             None => "",
         };
-        format!(
-            "| {name} | {:.1} | {:.1} | {ratio:.2} | {target} | {met} |",
-            each(library),
-            each(other)
-        )
+        format!("| {name} | {library:.1} | {other:.1} | {measured} | {target} | {met} |")
     }
 }
 

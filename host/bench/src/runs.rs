@@ -1,8 +1,9 @@
 //! Whole runs.
 
 use crate::problem::{linear, lorenz, rings, rossler, van_der_pol, Problem};
-use crate::race::{same_bits, Race, Reference};
-use input::Settings;
+use crate::race::{same_bits, Race, Reference, Target};
+use input::{Settings, System};
+use lyapunov_sys::Outputs;
 use oracle::{End, Entry};
 use std::hint::black_box;
 
@@ -68,7 +69,7 @@ fn race(source: Reference, problem: Problem, counts: Counts, target: f64) -> Res
     });
     Ok(Race {
         name,
-        target: Some(target),
+        target: Some(Target::Ratio(target)),
         calls: (counts.steps * counts.windows) as usize,
         library: Box::new(move || run.make()),
         other,
@@ -97,16 +98,23 @@ impl Run {
     }
 
     pub fn make(&mut self) {
+        self.call(|system, state, settings, outputs| {
+            lyapunov_sys::estimate_spectrum_at(system, 0.0, state, settings, outputs)
+        });
+    }
+
+    /// A call that takes what a run from time 0 does; it must not be refused.
+    pub fn call(&mut self, call: impl FnOnce(&System, &[f64], &Settings, &mut Outputs) -> u64) {
         let problem = black_box(&self.problem);
-        let mut outputs = lyapunov_sys::Outputs {
+        let mut outputs = Outputs {
             rows: &mut self.rows,
             exponents: &mut self.exponents,
             final_state: &mut self.final_state,
             counts: &mut [0; 19],
             times: &mut [0.0; 2],
         };
-        let (system, state, settings) = (&problem.system, &problem.state, &self.settings);
-        let number = lyapunov_sys::estimate_spectrum_at(system, 0.0, state, settings, &mut outputs);
+        let (system, state) = (&problem.system, &problem.state);
+        let number = call(system, state, &self.settings, &mut outputs);
         assert_eq!(number, 0, "{}", problem.name);
     }
 }

@@ -1,7 +1,7 @@
 //! The step on its own, many in a row.
 
 use crate::problem::{linear, lorenz, rings, rossler, van_der_pol, Problem};
-use crate::race::{same_bits, Race, Reference};
+use crate::race::{same_bits, Race, Reference, Target};
 use lyapunov_sys::Arguments;
 use oracle::{End, Source, Step};
 use std::hint::black_box;
@@ -43,7 +43,7 @@ fn race(source: Reference, problem: Problem, steps: usize, target: f64) -> Resul
     });
     Ok(Race {
         name,
-        target: Some(target),
+        target: Some(Target::Ratio(target)),
         calls: steps,
         library: Box::new(move || {
             black_box(by_library(black_box(&problem), steps));

@@ -67,6 +67,11 @@ impl<T: Entry> Lent<T> {
     }
 
     /// The slice as an array of a fixed length.
+    pub fn array<const N: usize>(&self) -> &[T; N] {
+        self.slice().try_into().expect("a slice of this length")
+    }
+
+    /// The same, to be written.
     pub fn array_mut<const N: usize>(&mut self) -> &mut [T; N] {
         self.slice_mut().try_into().expect("a slice of this length")
     }

@@ -1,4 +1,5 @@
-//! One line of a list of cases: `KIND id=ID name=value ... -> name=value ... # remark`.
+//! One line of a list of cases: `KIND id=ID name=value ... -> name=value ... # remark`. There may be
+//! no fields after the id, and none after the arrow.
 
 use crate::values::{read_count, read_float, read_list, read_word, type_of, Answer, Value};
 
@@ -13,7 +14,10 @@ impl<'a> Line<'a> {
     pub fn read(text: &'a str) -> Result<Self, String> {
         // No value holds a space, so the remark begins at the first " #".
         let text = text.split_once(" #").map_or(text, |(case, _)| case);
-        let (left, right) = text.split_once(" -> ").ok_or("no ' -> '")?;
+        let arrow = text.split_once(" -> ");
+        let (left, right) = arrow
+            .or_else(|| Some((text.strip_suffix(" ->")?, "")))
+            .ok_or("no ' -> '")?;
         let (kind, rest) = left.split_once(' ').ok_or("no kind")?;
         let mut input = Fields::read(rest)?;
         let id = input.take("id")?;
@@ -35,7 +39,12 @@ pub struct Fields<'a> {
 impl<'a> Fields<'a> {
     fn read(text: &'a str) -> Result<Self, String> {
         let mut fields: Vec<(&str, &str)> = Vec::new();
-        for token in text.split(' ') {
+        let tokens = if text.is_empty() {
+            None
+        } else {
+            Some(text.split(' '))
+        };
+        for token in tokens.into_iter().flatten() {
             let (name, value) = token
                 .split_once('=')
                 .ok_or_else(|| format!("{token} is no name=value"))?;
@@ -112,9 +121,20 @@ mod tests {
     }
 
     #[test]
+    fn a_line_may_have_no_answer() {
+        for text in ["empty id=A ->", "empty id=A -> # remark"] {
+            let line = Line::read(text).unwrap();
+            assert_eq!((line.kind, line.id), ("empty", "A"));
+            assert_eq!(line.input.finish(), Ok(()));
+            assert_eq!(line.answer.answer(&[]), Ok(Answer::default()));
+        }
+    }
+
+    #[test]
     fn malformed_lines_are_refused() {
         for text in [
             "root id=A x=0000000000000000",
+            "root id=A x=0000000000000000 ->y=0000000000000000",
             "root -> y=0000000000000000",
             "root x=0000000000000000 -> y=0000000000000000",
             "root id=A x -> y=0000000000000000",

@@ -26,6 +26,8 @@ const USAGE: &str = "usage:
   compare runs --count N                 whole runs
   compare from-zero --count N            runs by estimate_spectrum and estimate_largest
   compare pairs --count N                runs for k and for K exponents (demand 3)
+  compare later-pairs --count N          the same of runs that are kept and gone on with
+  compare stores --count N               lists of calls that keep states, go on and forget
   compare rates --count N                dimension and entropy
   compare fuzz [--seconds N] [--calls N] [--seed S]
                                          calls from random bytes, for N seconds (20) or N calls
@@ -106,6 +108,8 @@ fn compare(name: &str, words: &[&str]) -> Result<bool, String> {
         "runs" => commands::runs,
         "from-zero" => commands::from_zero,
         "pairs" => commands::pairs,
+        "later-pairs" => commands::later_pairs,
+        "stores" => commands::stores,
         "rates" => commands::rates,
         _ => return Err(USAGE.to_string()),
     };

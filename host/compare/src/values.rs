@@ -82,6 +82,16 @@ impl Value {
         }
     }
 
+    /// A list of floats without its first entries.
+    pub fn without_first(self, entries: usize) -> Value {
+        let rest = |values: Vec<f64>| values.into_iter().skip(entries).collect();
+        match self {
+            Value::Floats(values) => Value::Floats(rest(values)),
+            Value::Leading(values) => Value::Leading(rest(values)),
+            other => other,
+        }
+    }
+
     pub fn read(text: &str, as_type: Type) -> Result<Value, String> {
         Ok(match as_type {
             Type::Count => Value::Count(read_count(text)?),
@@ -207,6 +217,16 @@ impl Answer {
         self
     }
 
+    /// The same with another value of the field `name`.
+    pub fn map(mut self, name: &str, change: impl Fn(Value) -> Value) -> Self {
+        for (field, value) in &mut self.fields {
+            if *field == name {
+                *value = change(value.clone());
+            }
+        }
+        self
+    }
+
     pub fn get(&self, name: &str) -> Option<&Value> {
         let field = self.fields.iter().find(|(field, _)| *field == name)?;
         Some(&field.1)
@@ -214,15 +234,28 @@ impl Answer {
 
     /// The refusal's number, of an answer that has one.
     pub fn number(&self) -> u64 {
-        match self.get("num") {
-            Some(Value::Count(number)) => *number,
+        self.count("num")
+    }
+
+    /// The count `name`, 0 where the answer has none.
+    pub fn count(&self, name: &str) -> u64 {
+        match self.get(name) {
+            Some(Value::Count(count)) => *count,
             _ => 0,
         }
     }
 
+    /// Whether a direction was faint.
+    pub fn is_faint(&self) -> bool {
+        let any = |counts: &[u64]| counts.iter().any(|count| *count > 0);
+        matches!(self.get("faint"), Some(Value::Counts(counts)) if any(counts))
+    }
+
+    /// The fields, parted by spaces: nothing where there are none.
     pub fn written(&self) -> String {
         let field = |(name, value): &(&str, Value)| format!("{name}={}", value.written());
-        list(&self.fields, " ", field)
+        let fields: Vec<String> = self.fields.iter().map(field).collect();
+        fields.join(" ")
     }
 
     /// The first field of this reference that `actual` does not match, with both values.

@@ -8,6 +8,8 @@ const RUNS: [&str; 3] = [
     "estimate_largest ",
 ];
 
+const OF_A_STORE: [&str; 4] = ["empty_store ", "keep ", "go_on ", "forget "];
+
 fn fuzz(words: &[&str]) -> Output {
     Command::new(env!("CARGO_BIN_EXE_compare"))
         .arg("fuzz")
@@ -24,6 +26,7 @@ fn some_calls_show_no_difference() {
     for function in ["sqrt", "ln", "step", "build_config", "validate"]
         .into_iter()
         .chain(RUNS)
+        .chain(OF_A_STORE)
     {
         assert!(text.contains(function), "{function} in {text}");
     }

@@ -18,7 +18,8 @@ mod raw {
 
 /// Calls a function of the C interface. Its arguments are named in the order of the header, with a
 /// word before each that says how it is handed over: a `system`, the `settings` of a run or some
-/// `fields` of them, a slice to `read` or to `write`, the `outputs` of a run, or a single `value`.
+/// `fields` of them, a slice to `read` or to `write`, an array of the header's length to be `seen`
+/// or `filled`, the `outputs` of a run, or a single `value`.
 macro_rules! call {
     (@ $function:ident [$($done:tt)*] system $of:ident, $($rest:tt)*) => {
         call!(@ $function [$($done)* $of.kind, $of.parameters[0], $of.parameters[1],
@@ -37,9 +38,15 @@ macro_rules! call {
     (@ $function:ident [$($done:tt)*] write $slice:expr, $($rest:tt)*) => {
         call!(@ $function [$($done)* $slice.as_mut_ptr(), $slice.len(),] $($rest)*)
     };
+    (@ $function:ident [$($done:tt)*] seen $array:expr, $($rest:tt)*) => {
+        call!(@ $function [$($done)* $array.as_ptr(),] $($rest)*)
+    };
+    (@ $function:ident [$($done:tt)*] filled $array:expr, $($rest:tt)*) => {
+        call!(@ $function [$($done)* $array.as_mut_ptr(),] $($rest)*)
+    };
     (@ $function:ident [$($done:tt)*] outputs $of:ident, $($rest:tt)*) => {
         call!(@ $function [$($done)*] write $of.rows, write $of.exponents, write $of.final_state,
-            value $of.counts.as_mut_ptr(), value $of.times.as_mut_ptr(), $($rest)*)
+            filled $of.counts, filled $of.times, $($rest)*)
     };
     (@ $function:ident [$($done:tt)*] value $value:expr, $($rest:tt)*) => {
         call!(@ $function [$($done)* $value,] $($rest)*)
@@ -64,6 +71,60 @@ pub struct Outputs<'a> {
     pub counts: &'a mut [u64; 19],
     /// Final time, measured time.
     pub times: &'a mut [f64; 2],
+}
+
+/// The most states that a store keeps.
+pub const STORE_STATES: usize = 8;
+/// The length of a store's floats.
+pub const STORE_FLOATS: usize = 2568;
+/// The length of a store's counts.
+pub const STORE_COUNTS: usize = 152;
+
+/// The memory of a store, where it may be written. It may hold anything: what makes no sense
+/// counts as free.
+#[derive(Debug)]
+pub struct StoreMut<'a> {
+    pub floats: &'a mut [f64; STORE_FLOATS],
+    pub counts: &'a mut [u64; STORE_COUNTS],
+}
+
+/// The memory of a store that is only read.
+#[derive(Clone, Copy, Debug)]
+pub struct StoreRef<'a> {
+    pub floats: &'a [f64; STORE_FLOATS],
+    pub counts: &'a [u64; STORE_COUNTS],
+}
+
+/// A store's memory on its own, with nothing kept at first.
+#[derive(Clone, Debug)]
+pub struct StoreMemory {
+    pub floats: Box<[f64; STORE_FLOATS]>,
+    pub counts: Box<[u64; STORE_COUNTS]>,
+}
+
+impl StoreMemory {
+    #[must_use]
+    pub fn empty() -> Self {
+        let mut counts = Box::new([0; STORE_COUNTS]);
+        empty_store(&mut counts);
+        let floats = Box::new([0.0; STORE_FLOATS]);
+        Self { floats, counts }
+    }
+
+    pub fn lent(&mut self) -> StoreMut<'_> {
+        StoreMut {
+            floats: &mut self.floats,
+            counts: &mut self.counts,
+        }
+    }
+
+    #[must_use]
+    pub fn seen(&self) -> StoreRef<'_> {
+        StoreRef {
+            floats: &self.floats,
+            counts: &self.counts,
+        }
+    }
 }
 
 /// The refusal of a call that answers its number and writes its place.
@@ -188,6 +249,50 @@ pub fn estimate_largest<'a>(
         system system, read state, fields settings [step_size, steps_per_window, windows],
         outputs outputs,
     ))
+}
+
+/// Makes a store that keeps nothing. Its floats may hold anything.
+pub fn empty_store(counts: &mut [u64; STORE_COUNTS]) {
+    call!(lyapunov_empty_store(filled counts,))
+}
+
+/// A run whose end is kept under `number` where it is not refused.
+pub fn keep<'a>(
+    store: StoreMut,
+    number: u8,
+    system: impl Into<Arguments<'a>>,
+    time: f64,
+    state: &[f64],
+    settings: &Settings,
+    outputs: &mut Outputs,
+) -> u64 {
+    let system = system.into();
+    call!(lyapunov_keep(
+        filled store.floats, filled store.counts, value number,
+        system system, value time, read state, settings settings, outputs outputs,
+    ))
+}
+
+/// Goes on from what is kept under `number`, for the windows of `settings`.
+pub fn go_on<'a>(
+    store: StoreRef,
+    number: u8,
+    system: impl Into<Arguments<'a>>,
+    time: f64,
+    state: &[f64],
+    settings: &Settings,
+    outputs: &mut Outputs,
+) -> u64 {
+    let system = system.into();
+    call!(lyapunov_go_on(
+        seen store.floats, seen store.counts, value number,
+        system system, value time, read state, settings settings, outputs outputs,
+    ))
+}
+
+/// Forgets what is kept under `number`; answers 0 or 26.
+pub fn forget(floats: &[f64; STORE_FLOATS], counts: &mut [u64; STORE_COUNTS], number: u8) -> u64 {
+    call!(lyapunov_forget(seen floats, filled counts, value number,))
 }
 
 /// `out` is written where the refusal's number is 0.

@@ -24,7 +24,7 @@ macro_rules! refusals {
         }
 
         impl LyapunovError {
-            /// The number of the refusal, 1 to 25.
+            /// The number of the refusal, 1 to 27.
             #[must_use]
             pub const fn number(&self) -> u64 {
                 match self {
@@ -126,6 +126,11 @@ refusals! {
     24 LogarithmDomain => "no logarithm: not positive, normal and finite";
     /// 25: a ring has 1 to 3 cells. It is tested straight after 8.
     25 TooFewCells => "the ring has fewer than 4 cells";
+    /// 26: nothing is kept under the number, on going on or forgetting. It is tested before any
+    /// setting.
+    26 NoSuchNumber => "nothing is kept under this number";
+    /// 27: eight other numbers are kept, on keeping. It is tested before any setting.
+    27 StoreFull => "eight other numbers are kept";
 }
 
 /// What the library answers, as a `Result`: 0 is no refusal.
@@ -167,7 +172,7 @@ mod tests {
 
     #[test]
     fn numbers_and_places_are_read_back() {
-        for number in 1..=25 {
+        for number in 1..=27 {
             let error = LyapunovError::from_number(number, 7).unwrap();
             assert_eq!(error.number(), number);
             let placed = [5, 11, 13, 14, 16, 17, 22].contains(&number);
@@ -175,7 +180,7 @@ mod tests {
             assert!(!error.to_string().is_empty());
         }
         assert_eq!(LyapunovError::from_number(0, 0), None);
-        assert_eq!(LyapunovError::from_number(26, 0), None);
+        assert_eq!(LyapunovError::from_number(28, 0), None);
     }
 
     #[test]
@@ -199,7 +204,7 @@ mod tests {
     #[test]
     fn every_error_has_words_of_its_own() {
         let words = |number| LyapunovError::from_number(number, 0).unwrap().to_string();
-        let all: std::collections::BTreeSet<String> = (1..=25).map(words).collect();
-        assert_eq!(all.len(), 25);
+        let all: std::collections::BTreeSet<String> = (1..=27).map(words).collect();
+        assert_eq!(all.len(), 27);
     }
 }

@@ -6,6 +6,7 @@ use core::fmt;
 /// The exponents of one measured window, and those up to its end.
 #[derive(Clone, Debug, PartialEq)]
 pub struct FiniteTimeEstimate {
+    pub(crate) window: usize,
     /// End time, local exponents, running exponents.
     pub(crate) row: Vec<f64>,
 }
@@ -13,6 +14,13 @@ pub struct FiniteTimeEstimate {
 impl FiniteTimeEstimate {
     fn top_k(&self) -> usize {
         self.row.len() / 2
+    }
+
+    /// Which measured window it is, from 0. After going on from a kept state the windows of the keep
+    /// are counted too, so that the first of the later ones has their number.
+    #[must_use]
+    pub const fn window(&self) -> usize {
+        self.window
     }
 
     /// The time at the end of the window.
@@ -35,10 +43,14 @@ impl FiniteTimeEstimate {
 }
 
 /// What a run answers.
+///
+/// After [going on](crate::Store::go_on) from a kept state it is that of the one run of all windows,
+/// but for [`finite_time_estimates`](Self::finite_time_estimates), which has the later windows alone.
 #[derive(Clone, Debug, PartialEq)]
 pub struct SpectrumEstimate {
     pub(crate) exponents: Vec<f64>,
     pub(crate) finite_time: Vec<FiniteTimeEstimate>,
+    pub(crate) finished: usize,
     pub(crate) final_state: Vec<f64>,
     pub(crate) faint_counts: Vec<u64>,
     pub(crate) steps: u64,
@@ -53,10 +65,18 @@ impl SpectrumEstimate {
         &self.exponents
     }
 
-    /// One entry for each measured window.
+    /// One entry for each measured window of this call: all of a run, and the later ones of a going
+    /// on, whose earlier ones are in the answer of its keep. Each says
+    /// [which window it is](FiniteTimeEstimate::window).
     #[must_use]
     pub fn finite_time_estimates(&self) -> &[FiniteTimeEstimate] {
         &self.finite_time
+    }
+
+    /// The number of measured windows, those before a going on included.
+    #[must_use]
+    pub const fn finished_windows(&self) -> usize {
+        self.finished
     }
 
     /// The state at the end.
@@ -117,6 +137,7 @@ impl SpectrumEstimate {
 pub struct RefusedRun {
     pub(crate) error: LyapunovError,
     pub(crate) finite_time: Vec<FiniteTimeEstimate>,
+    pub(crate) finished: usize,
     pub(crate) steps: u64,
 }
 
@@ -127,10 +148,18 @@ impl RefusedRun {
         self.error
     }
 
-    /// One entry for each measured window that was finished.
+    /// One entry for each measured window that was finished in this call. A going on that is refused
+    /// in one of its windows has those of the later windows before it.
     #[must_use]
     pub fn finite_time_estimates(&self) -> &[FiniteTimeEstimate] {
         &self.finite_time
+    }
+
+    /// The number of measured windows that were finished, those before a going on included. It is 0
+    /// where a test of the input refused.
+    #[must_use]
+    pub const fn finished_windows(&self) -> usize {
+        self.finished
     }
 
     /// The number of steps that passed every test, warm-up included.
@@ -142,7 +171,7 @@ impl RefusedRun {
 
 impl fmt::Display for RefusedRun {
     fn fmt(&self, out: &mut fmt::Formatter<'_>) -> fmt::Result {
-        let (windows, steps) = (self.finite_time.len(), self.steps);
+        let (windows, steps) = (self.finished, self.steps);
         write!(out, "{}", self.error)?;
         write!(out, " (finished windows: {windows}, steps: {steps})")
     }
@@ -166,6 +195,7 @@ impl From<LyapunovError> for RefusedRun {
         Self {
             error,
             finite_time: Vec::new(),
+            finished: 0,
             steps: 0,
         }
     }

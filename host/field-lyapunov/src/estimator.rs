@@ -3,7 +3,7 @@
 use crate::error::answered;
 use crate::{memory, BenettinConfig, FiniteTimeEstimate, LyapunovError, Rk4, MAX_DIMENSION};
 use crate::{RefusedRun, SpectrumEstimate};
-use input::{Refusal, Settings, System};
+use input::{Refusal, Settings};
 use lyapunov_sys::Outputs;
 
 /// A run from time 0.
@@ -24,7 +24,7 @@ pub fn estimate_spectrum(
     config: &BenettinConfig,
 ) -> Result<SpectrumEstimate, RefusedRun> {
     let (system, settings) = (stepper.system(), config.settings());
-    run(system, 0.0, initial_state, settings, |outputs| {
+    run(settings, initial_state.len(), 0, |outputs| {
         lyapunov_sys::estimate_spectrum(system, initial_state, settings, outputs)
     })
 }
@@ -48,7 +48,7 @@ pub fn estimate_largest(
 ) -> Result<SpectrumEstimate, RefusedRun> {
     let settings = Settings::new(1, step_size, steps_per_window as u64, windows as u64);
     let system = stepper.system();
-    run(system, 0.0, initial_state, &settings, |outputs| {
+    run(&settings, initial_state.len(), 0, |outputs| {
         lyapunov_sys::estimate_largest(system, initial_state, &settings, outputs)
     })
 }
@@ -58,7 +58,7 @@ pub fn estimate_largest(
 /// All tests of the input are made before memory is asked for, and all memory is asked for before
 /// the first step. Where it can't be had, the run is refused by
 /// [`OutputTooShort(0)`](LyapunovError::OutputTooShort). The rows and the windows of the answer
-/// take 40 + 32·`top_k` bytes a window, and the allocator's own.
+/// take 48 + 32·`top_k` bytes a window, and the allocator's own.
 ///
 /// ```
 /// use field_lyapunov::{estimate_spectrum_at, BenettinConfig, Rk4, System};
@@ -77,62 +77,90 @@ pub fn estimate_spectrum_at(
     config: &BenettinConfig,
 ) -> Result<SpectrumEstimate, RefusedRun> {
     let (system, settings) = (stepper.system(), config.settings());
-    run(system, initial_time, initial_state, settings, |outputs| {
+    run(settings, initial_state.len(), 0, |outputs| {
         lyapunov_sys::estimate_spectrum_at(system, initial_time, initial_state, settings, outputs)
     })
 }
 
-/// The run that `call` makes. It is made once all tests of its input have passed.
-fn run(
-    system: &System,
-    time: f64,
-    state: &[f64],
+/// The run that `call` makes, from a state of `dimension` entries and after `earlier` measured
+/// windows.
+///
+/// The first call lends no outputs: the library makes all tests of the input then, and refuses by 13
+/// what passes them. So memory is asked for only where the run can be made.
+pub(crate) fn run(
     settings: &Settings,
-    call: impl FnOnce(&mut Outputs) -> u64,
+    dimension: usize,
+    earlier: usize,
+    mut call: impl FnMut(&mut Outputs) -> u64,
 ) -> Result<SpectrumEstimate, RefusedRun> {
-    answered(lyapunov_sys::validate(system, time, state, settings))?;
-    let Some((mut rows, windows)) = room(settings) else {
+    let mut lent = Lent::default();
+    let tested = lent.to(&mut call);
+    if tested != Refusal::at(13, 0) {
+        answered(tested)?;
+    }
+    let Some((rows, windows)) = room(settings, earlier) else {
         return Err(LyapunovError::OutputTooShort(0).into());
     };
-    let mut exponents = vec![0.0; settings.top_k];
-    let mut final_state = vec![0.0; state.len()];
-    let (mut counts, mut times) = ([0; 3 + MAX_DIMENSION], [0.0; 2]);
-    let number = call(&mut Outputs {
-        rows: &mut rows,
-        exponents: &mut exponents,
-        final_state: &mut final_state,
-        counts: &mut counts,
-        times: &mut times,
-    });
-    let [place, finished, steps, ..] = counts;
-    let finite_time = filled(windows, &rows, finished as usize);
-    match answered(Refusal::at(number, place)) {
+    lent.rows = rows;
+    lent.exponents = vec![0.0; settings.top_k];
+    lent.final_state = vec![0.0; dimension];
+    let answer = answered(lent.to(&mut call));
+    let finished = lent.counts[1] as usize;
+    let finite_time = filled(windows, &lent.rows, finished.saturating_sub(earlier));
+    let steps = lent.counts[2];
+    match answer {
         Err(error) => Err(RefusedRun {
             error,
             finite_time,
+            finished,
             steps,
         }),
         Ok(()) => Ok(SpectrumEstimate {
-            exponents,
+            exponents: lent.exponents,
             finite_time,
-            final_state,
-            faint_counts: counts[3..3 + settings.top_k].to_vec(),
+            finished,
+            final_state: lent.final_state,
+            faint_counts: lent.counts[3..3 + settings.top_k].to_vec(),
             steps,
-            final_time: times[0],
-            measured_time: times[1],
+            final_time: lent.times[0],
+            measured_time: lent.times[1],
         }),
     }
 }
 
-/// Memory for the rows, and for the windows that they become. The library's tests have bounded
-/// both numbers.
-fn room(settings: &Settings) -> Option<(Vec<f64>, Vec<FiniteTimeEstimate>)> {
+/// What is lent to a run.
+#[derive(Default)]
+struct Lent {
+    rows: Vec<f64>,
+    exponents: Vec<f64>,
+    final_state: Vec<f64>,
+    counts: [u64; 3 + MAX_DIMENSION],
+    times: [f64; 2],
+}
+
+impl Lent {
+    /// What the run that `call` makes is refused by.
+    fn to(&mut self, call: impl FnOnce(&mut Outputs) -> u64) -> Refusal {
+        let number = call(&mut Outputs {
+            rows: &mut self.rows,
+            exponents: &mut self.exponents,
+            final_state: &mut self.final_state,
+            counts: &mut self.counts,
+            times: &mut self.times,
+        });
+        Refusal::at(number, self.counts[0])
+    }
+}
+
+/// Memory for the rows, and for the windows that they become, which come after `earlier` ones. The
+/// library's tests have bounded the numbers.
+fn room(settings: &Settings, earlier: usize) -> Option<(Vec<f64>, Vec<FiniteTimeEstimate>)> {
     let (width, windows) = (settings.row_width(), settings.windows as usize);
     let rows = memory::floats(settings.rows_length())?;
     let mut list = memory::list(windows)?;
-    for _ in 0..windows {
+    for window in earlier..earlier + windows {
         let row = memory::floats(width)?;
-        list.push(FiniteTimeEstimate { row });
+        list.push(FiniteTimeEstimate { window, row });
     }
     Some((rows, list))
 }

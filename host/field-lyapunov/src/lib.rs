@@ -9,6 +9,8 @@
 //!   into its [`LyapunovError`].
 //! - A run reports steps and faint counts too: see [`SpectrumEstimate::faint_counts`].
 //!
+//! Beside these names, a [`Store`] keeps ends of runs under numbers, to go on from.
+//!
 //! No function panics, whatever it is handed. All of them may be called from any thread.
 //!
 //! ```
@@ -38,6 +40,7 @@ mod estimator;
 mod gram_schmidt;
 mod memory;
 mod rk4;
+mod store;
 
 pub use arithmetic::{ln, sqrt, SplitMix64};
 pub use config::BenettinConfig;
@@ -49,6 +52,7 @@ pub use gram_schmidt::{modified_gram_schmidt, modified_gram_schmidt_into};
 #[doc(inline)]
 pub use input::{System, DEFAULT_SEED, MAX_DIMENSION};
 pub use rk4::Rk4;
+pub use store::Store;
 
 /// The largest number of steps a window, of measured windows and of warm-up windows, each.
 pub const MAX_COUNT: usize = input::MAX_COUNT as usize;

@@ -3,7 +3,7 @@
 
 use field_lyapunov::{
     estimate_spectrum_at, kaplan_yorke_dimension, kolmogorov_sinai_entropy, ln,
-    modified_gram_schmidt, sqrt, BenettinConfig, LyapunovError, Rk4, SplitMix64, System,
+    modified_gram_schmidt, sqrt, BenettinConfig, LyapunovError, Rk4, SplitMix64, Store, System,
 };
 use input::Refusal;
 use lyapunov_sys::Arguments;
@@ -24,6 +24,9 @@ const FLOATS: [f64; 11] = [
 
 const SIZES: [usize; 9] = [0, 1, 2, 3, 4, 5, 16, 17, usize::MAX];
 
+/// Sizes with which every run is short.
+const SHORT: [usize; 4] = [1, 2, 3, 5];
+
 /// A source of choices.
 struct Chooser(SplitMix64);
 
@@ -31,6 +34,11 @@ impl Chooser {
     fn size(&mut self) -> usize {
         let at = self.0.next_u64() as usize % SIZES.len();
         SIZES[at]
+    }
+
+    fn short(&mut self) -> usize {
+        let at = self.0.next_u64() as usize % SHORT.len();
+        SHORT[at]
     }
 
     /// Mostly a number of everyday size.
@@ -134,6 +142,39 @@ fn assert_same(actual: &[f64], expected: &[f64]) {
 /// The number and the place of an error, as the model has them.
 fn refusal(error: LyapunovError) -> Refusal {
     Refusal::at(error.number(), error.place() as u64)
+}
+
+/// What is brought to a going on need not be what was kept: the answer is then any, with as many
+/// windows as were asked for or fewer.
+#[test]
+fn kept_states() {
+    let (mut chooser, mut store) = (chooser(5), Store::new());
+    let mut gone_on = 0;
+    for _ in 0..20_000 {
+        let number = chooser.0.next_u64() as u8 % 12;
+        let stepper = Rk4::new(chooser.system());
+        let state = chooser.state(stepper.dimension());
+        let (steps, windows) = (chooser.short(), chooser.short());
+        let Ok(config) = BenettinConfig::new(chooser.short(), chooser.float(), steps, windows)
+        else {
+            continue;
+        };
+        let before = store.windows(number);
+        let kept = store.keep(number, &stepper, chooser.float(), &state, &config);
+        let expected = if kept.is_ok() { Some(windows) } else { before };
+        assert_eq!(store.windows(number), expected);
+        assert!(store.numbers().count() <= 8);
+        let (other, later) = (chooser.0.next_u64() as u8 % 12, chooser.short());
+        if let Ok(answer) = store.go_on(other, &stepper, 0.0, &state, &config, later) {
+            gone_on += 1;
+            assert!(answer.finite_time_estimates().len() <= later);
+        }
+        if chooser.0.next_u64() % 4 == 0 {
+            let is_kept = store.windows(other).is_some();
+            assert_eq!(store.forget(other).is_ok(), is_kept);
+        }
+    }
+    assert!(gone_on > 100, "{gone_on}");
 }
 
 #[test]

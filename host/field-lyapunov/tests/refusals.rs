@@ -3,7 +3,7 @@
 use field_lyapunov::{
     estimate_largest, estimate_spectrum, estimate_spectrum_at, kaplan_yorke_dimension,
     kolmogorov_sinai_entropy, ln, modified_gram_schmidt, modified_gram_schmidt_into,
-    BenettinConfig, LyapunovError, RefusedRun, Rk4, System, MAX_COUNT,
+    BenettinConfig, LyapunovError, RefusedRun, Rk4, Store, System, MAX_COUNT,
 };
 
 fn linear(dimension: usize, matrix: &[f64]) -> Rk4 {
@@ -266,6 +266,24 @@ fn the_largest_exponent_alone() {
     let config = BenettinConfig::new(1, 0.1, 1, 5).unwrap();
     let same = estimate_spectrum_at(&linear(1, &[1.0]), 0.0, &[1.0], &config).unwrap();
     assert_eq!(estimate, same);
+}
+
+#[test]
+fn kept_states() {
+    let (rest, mut store) = (linear(1, &[0.0]), Store::new());
+    for number in 1..=8 {
+        store.keep(number, &rest, 0.0, &[1.0], &config(1)).unwrap();
+    }
+    // Both come before the tests of what is handed in.
+    let full = store.keep(0, &rest, f64::NAN, &[], &config(9));
+    assert_eq!(full, Err(RefusedRun::from(LyapunovError::StoreFull)));
+    let unknown = store.go_on(0, &rest, f64::NAN, &[], &config(9), 0);
+    assert_eq!(unknown, Err(RefusedRun::from(LyapunovError::NoSuchNumber)));
+    assert_eq!(store.forget(0), Err(LyapunovError::NoSuchNumber));
+    assert_eq!(
+        store.numbers().collect::<Vec<_>>(),
+        [1, 2, 3, 4, 5, 6, 7, 8]
+    );
 }
 
 #[test]

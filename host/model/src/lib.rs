@@ -1,15 +1,16 @@
-//! Document 01, with document 02's requests a (rings) and b (the place of refusal 5), as plain
-//! Rust, written from the documents and not from the source.
+//! Document 01, with document 02's requests a (rings), b (the place of refusal 5) and c (states kept
+//! under a number), as plain Rust, written from the documents and not from the source.
 //!
-//! It answers what the source has no behaviour for (refusals 5, 8, 9, 13, 21, 23, 24, 25, the bound
-//! of 16 in 19, faint counts, the rows of a refused run) and is a second opinion on the rest. It
-//! favours plainness over speed.
+//! It answers what the source has no behaviour for (refusals 5, 8, 9, 13, 21, 23, 24, 25, 26, 27, the
+//! bound of 16 in 19, faint counts, the rows of a refused run) and is a second opinion on the rest.
+//! It favours plainness over speed.
 
 mod arithmetic;
 mod orthonormalise;
 mod rates;
 mod run;
 mod step;
+mod store;
 mod system;
 
 pub use arithmetic::{
@@ -20,6 +21,7 @@ pub use orthonormalise::orthonormalise;
 pub use rates::{entropy, kaplan_yorke_dimension, spectrum_program};
 pub use run::{build_config, estimate, first_count_over, validate, Estimate, Outputs};
 pub use step::step;
+pub use store::{Input, Store};
 
 use input::Refusal;
 

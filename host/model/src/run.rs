@@ -81,7 +81,8 @@ pub fn estimate(
     }
 }
 
-fn refused(refusal: Refusal, finished: u64, steps: u64) -> Estimate {
+/// What a run answers that is refused after so many finished windows and steps.
+pub(crate) fn refused(refusal: Refusal, finished: u64, steps: u64) -> Estimate {
     Estimate {
         refusal: Some(refusal),
         finished,
@@ -111,7 +112,11 @@ pub fn validate(
 }
 
 /// Test 13, of settings that passed the others.
-fn output_tests(d: usize, settings: &Settings, outputs: &Outputs) -> Result<(), Refusal> {
+pub(crate) fn output_tests(
+    d: usize,
+    settings: &Settings,
+    outputs: &Outputs,
+) -> Result<(), Refusal> {
     let rows = settings.windows as usize * (1 + 2 * settings.top_k);
     refuse_if(outputs.rows.len() < rows, Refusal::at(13, 0))?;
     let exponents = outputs.exponents.len();

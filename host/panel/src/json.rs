@@ -1,18 +1,33 @@
 //! The results for programs: one JSON object. Floats are the shortest decimals that read back as
 //! the same float, and one that is not finite is null.
 
+use crate::measured::{moved, Answer, Measured};
 use crate::options::Options;
 use field_lyapunov::{
     kaplan_yorke_dimension, kolmogorov_sinai_entropy, RefusedRun, SpectrumEstimate,
 };
 
-pub fn report(options: &Options, answer: &Result<SpectrumEstimate, RefusedRun>) -> String {
+pub fn report(options: &Options, measured: &Measured) -> String {
     let mut fields = input(options);
-    match answer {
-        Ok(estimate) => fields.extend(results(estimate)),
-        Err(refused) => fields.push(("refused", refusal(refused))),
+    fields.extend(answered(&measured.run));
+    if let (Ok(run), false) = (&measured.run, measured.continuations.is_empty()) {
+        let then = measured.continuations.iter();
+        let then: Vec<String> = then
+            .map(|(more, answer)| continuation(*more, answer, run))
+            .collect();
+        fields.push(("continuations", list(&then)));
     }
     format!("{}\n", object(&fields))
+}
+
+/// The results after so many windows more, and how far the rates are from those of the run.
+fn continuation(more: usize, answer: &Answer, run: &SpectrumEstimate) -> String {
+    let mut fields = vec![("more_windows", more.to_string())];
+    fields.extend(answered(answer));
+    if let Ok(estimate) = answer {
+        fields.push(("moved", floats(&moved(run, estimate))));
+    }
+    object(&fields)
 }
 
 pub fn refused_settings(refused: &RefusedRun) -> String {
@@ -20,6 +35,13 @@ pub fn refused_settings(refused: &RefusedRun) -> String {
 }
 
 type Field = (&'static str, String);
+
+fn answered(answer: &Answer) -> Vec<Field> {
+    match answer {
+        Ok(estimate) => results(estimate),
+        Err(refused) => vec![("refused", refusal(refused))],
+    }
+}
 
 fn input(options: &Options) -> Vec<Field> {
     let config = &options.config;
@@ -71,10 +93,7 @@ fn refusal(refused: &RefusedRun) -> String {
         ("number", error.number().to_string()),
         ("place", error.place().to_string()),
         ("words", text(&error.to_string())),
-        (
-            "finished_windows",
-            refused.finite_time_estimates().len().to_string(),
-        ),
+        ("finished_windows", refused.finished_windows().to_string()),
         ("steps", refused.steps().to_string()),
     ])
 }

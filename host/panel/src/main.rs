@@ -2,13 +2,15 @@
 
 mod choice;
 mod json;
+mod measured;
 mod options;
 mod rows;
 mod spectra;
 mod svg;
 mod text;
 
-use field_lyapunov::{estimate_spectrum_at, LyapunovError, RefusedRun};
+use field_lyapunov::{LyapunovError, RefusedRun};
+use measured::measured;
 use options::{Command, Options, Unfit};
 use std::io::Write as _;
 use std::path::Path;
@@ -37,7 +39,7 @@ fn refused_settings(error: LyapunovError, json: bool) -> Result<ExitCode, String
     if json {
         print(&json::refused_settings(&refused))?;
     }
-    Err(text::refusal(&refused))
+    Err(text::refusal(None, &refused))
 }
 
 /// The words of the command line, which must be Unicode.
@@ -61,30 +63,23 @@ fn unfit(message: &str) -> ExitCode {
 /// Prints what was measured, then writes the files that were asked for. A refused run has the
 /// windows that it finished.
 fn run(options: &Options) -> Result<ExitCode, String> {
-    let answer = estimate_spectrum_at(
-        &options.stepper,
-        options.time,
-        &options.state,
-        &options.config,
-    );
-    let (windows, refused) = match &answer {
-        Ok(estimate) => (estimate.finite_time_estimates(), None),
-        Err(refused) => (refused.finite_time_estimates(), Some(refused)),
-    };
+    let measured = measured(options);
+    let windows = measured.windows();
     if options.json {
-        print(&json::report(options, &answer))?;
-    } else if let Ok(estimate) = &answer {
-        print(&text::report(options, estimate))?;
+        print(&json::report(options, &measured))?;
+    } else if let Ok(estimate) = &measured.run {
+        print(&text::report(options, &measured, estimate))?;
     }
     if let Some(file) = options.rows.as_ref().filter(|_| !windows.is_empty()) {
-        write(file, &rows::csv(windows))?;
+        write(file, &rows::csv(&windows))?;
     }
     if let Some(file) = options.svg.as_ref().filter(|_| !windows.is_empty()) {
-        write(file, &svg::drawing(&options.choice.title(), windows))?;
+        let (title, ends) = (options.choice.title(), measured.ends());
+        write(file, &svg::drawing(&title, &windows, &ends))?;
     }
-    match refused {
-        Some(refused) => Err(text::refusal(refused)),
-        None => Ok(ExitCode::SUCCESS),
+    match text::refusals(&measured) {
+        refusals if refusals.is_empty() => Ok(ExitCode::SUCCESS),
+        refusals => Err(refusals.join("\npanel: ")),
     }
 }
 

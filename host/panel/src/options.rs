@@ -25,6 +25,8 @@ the run
   --windows N          measured windows (50000)
   --warm-up N          windows before them that are not measured (1000)
   --seed S             of the directions, decimal or 0x.. (0x4c594150554e4f56)
+  --then B,B,...       continuations: goes on from the measured windows by so many more, each
+                       time from the same end, and shows the rates beside each other
 what is written
   --rows FILE          the measured windows as comma-separated values
   --svg FILE           a drawing of the running rates
@@ -32,7 +34,9 @@ what is written
   --help               this text
 
 Where an option is given twice, the last one holds. A refused run prints no results; --rows and
---svg then have the windows that it finished, and are not written where it finished none.
+--svg then have the windows that it finished, and are not written where it finished none. With
+--then they go on through the longest continuation, in which the others end. A refused
+continuation is told with its option, and the rest is printed.
 Exit status: 0, 1 where a known spectrum is missed, 2 for unfit input and refused runs.
 ";
 
@@ -49,6 +53,8 @@ pub struct Options {
     pub state: Vec<f64>,
     pub time: f64,
     pub config: BenettinConfig,
+    /// The windows of each continuation.
+    pub then: Vec<usize>,
     pub rows: Option<PathBuf>,
     pub svg: Option<PathBuf>,
     pub json: bool,
@@ -69,6 +75,7 @@ struct Given {
     windows: Option<usize>,
     warm_up: Option<usize>,
     seed: Option<u64>,
+    then: Vec<usize>,
     rows: Option<PathBuf>,
     svg: Option<PathBuf>,
     json: bool,
@@ -131,7 +138,7 @@ fn given(words: &[String]) -> Result<Given, String> {
 
 /// The options with a value.
 fn is_option(word: &str) -> bool {
-    const OPTIONS: [&str; 15] = [
+    const OPTIONS: [&str; 16] = [
         "--system",
         "--parameters",
         "--matrix",
@@ -145,6 +152,7 @@ fn is_option(word: &str) -> bool {
         "--windows",
         "--warm-up",
         "--seed",
+        "--then",
         "--rows",
         "--svg",
     ];
@@ -166,6 +174,7 @@ impl Given {
             "--windows" => self.windows = Some(count(value)?),
             "--warm-up" => self.warm_up = Some(count(value)?),
             "--seed" => self.seed = Some(seed(value)?),
+            "--then" => self.then = value.split(',').map(count).collect::<Result<_, _>>()?,
             "--rows" => self.rows = Some(PathBuf::from(value)),
             _ => self.svg = Some(PathBuf::from(value)),
         }
@@ -195,6 +204,7 @@ fn fitted(given: Given) -> Result<Options, Unfit> {
         time: given.time.unwrap_or(0.0),
         config,
         choice,
+        then: given.then,
         rows: given.rows,
         svg: given.svg,
         json: given.json,

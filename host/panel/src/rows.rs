@@ -5,7 +5,7 @@ use std::fmt::Write as _;
 
 /// A header, then a line a window: end time, local rates, running rates. A rate that is not finite
 /// is written as inf, -inf or NaN.
-pub fn csv(windows: &[FiniteTimeEstimate]) -> String {
+pub fn csv(windows: &[&FiniteTimeEstimate]) -> String {
     let directions = windows.first().map_or(0, |row| row.local_exponents().len());
     let mut text = String::from("end_time");
     for group in ["local", "running"] {

@@ -26,7 +26,8 @@ const DASHES: [&str; 8] = [
     "8 3 1 3 1 3",
 ];
 
-pub fn drawing(title: &str, windows: &[FiniteTimeEstimate]) -> String {
+/// The windows, with a line down at each of `ends`, which are named.
+pub fn drawing(title: &str, windows: &[&FiniteTimeEstimate], ends: &[(f64, String)]) -> String {
     let points = thinned(windows);
     let times = Axis::over(points.iter().map(|row| row.end_time()));
     let values = points.iter().flat_map(|row| row.running_exponents());
@@ -43,6 +44,9 @@ pub fn drawing(title: &str, windows: &[FiniteTimeEstimate]) -> String {
         &escaped(title),
     );
     frame(&mut svg, &times, &rates);
+    for (time, name) in ends {
+        end(&mut svg, across(times.part(*time)), name);
+    }
     let directions = windows
         .first()
         .map_or(0, |row| row.running_exponents().len());
@@ -55,9 +59,9 @@ pub fn drawing(title: &str, windows: &[FiniteTimeEstimate]) -> String {
 }
 
 /// At most `MAX_POINTS` windows and the last one.
-fn thinned(windows: &[FiniteTimeEstimate]) -> Vec<&FiniteTimeEstimate> {
+fn thinned<'a>(windows: &[&'a FiniteTimeEstimate]) -> Vec<&'a FiniteTimeEstimate> {
     let stride = windows.len().div_ceil(MAX_POINTS).max(1);
-    let mut kept: Vec<_> = windows.iter().step_by(stride).collect();
+    let mut kept: Vec<_> = windows.iter().copied().step_by(stride).collect();
     if let Some(last) = windows
         .last()
         .filter(|_| !(windows.len() - 1).is_multiple_of(stride))
@@ -163,6 +167,17 @@ fn frame(svg: &mut String, times: &Axis, rates: &Axis) {
     );
 }
 
+/// A line down, with its name along it, so that near ends have room beside each other.
+fn end(svg: &mut String, x: f64, name: &str) {
+    stroke(svg, [x, TOP, x, BOTTOM], "#777777");
+    let _ = writeln!(
+        svg,
+        "<text transform=\"translate({:.1} {:.1}) rotate(-90)\" text-anchor=\"end\">{name}</text>",
+        x - 3.0,
+        TOP + 5.0
+    );
+}
+
 /// The running rates of a direction; those that are not finite are left out.
 fn line(
     svg: &mut String,
@@ -190,7 +205,7 @@ fn look(direction: usize) -> String {
     format!("stroke=\"black\" stroke-width=\"{width}\" stroke-dasharray=\"{dashes}\"")
 }
 
-fn legend(svg: &mut String, direction: usize, windows: &[FiniteTimeEstimate]) {
+fn legend(svg: &mut String, direction: usize, windows: &[&FiniteTimeEstimate]) {
     let y = TOP + 14.0 + 24.0 * direction as f64;
     let (x, end) = (RIGHT + 14.0, RIGHT + 64.0);
     let look = look(direction);

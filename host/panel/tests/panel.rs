@@ -263,6 +263,142 @@ fn a_drawing_of_rates_that_are_not_finite() {
     }
 }
 
+/// The JSON of a short run with these words beside.
+fn short(words: &[&str]) -> json::Value {
+    let output = panel(&[&["--warm-up=20", "--json"], words].concat());
+    assert_eq!(output.status.code(), Some(0), "{}", stderr(&output));
+    json::read(&stdout(&output)).expect("JSON")
+}
+
+#[test]
+fn continuations_end_as_longer_runs() {
+    let value = short(&["--windows=30", "--then=40,1"]);
+    let kept = short(&["--windows=30"]);
+    let rates = |value: &json::Value| value.field("exponents").floats();
+    assert_eq!(rates(&value), rates(&kept));
+    let then = value.field("continuations").entries();
+    assert_eq!(then.len(), 2);
+    for (then, more) in then.iter().zip([40, 1]) {
+        let longer = short(&["--windows", &(30 + more).to_string()]);
+        assert_eq!(then.field("more_windows").float(), f64::from(more));
+        for list in ["exponents", "faint_counts", "final_state"] {
+            assert_eq!(then.field(list).floats(), longer.field(list).floats());
+        }
+        for number in ["final_time", "measured_time", "steps"] {
+            assert_eq!(then.field(number).float(), longer.field(number).float());
+        }
+        let difference = |(then, kept): (f64, f64)| then - kept;
+        let pairs = rates(then).into_iter().zip(rates(&kept));
+        let moved: Vec<f64> = pairs.map(difference).collect();
+        assert_eq!(then.field("moved").floats(), moved);
+    }
+}
+
+#[test]
+fn the_text_has_the_continuations_beside_each_other() {
+    let output = panel(&["--windows=30", "--warm-up=20", "--then=40,1", "-k=2"]);
+    assert_eq!(output.status.code(), Some(0), "{}", stderr(&output));
+    let text = stdout(&output);
+    let (run, then) = text.split_once("\nrates after so many").expect("a table");
+    let lines: Vec<&str> = then.lines().collect();
+    assert_eq!(lines.len(), 1 + 1 + 2, "{text}");
+    let heading: Vec<&str> = lines[1].split_whitespace().collect();
+    assert_eq!(heading, ["direction", "+40", "moved", "+1", "moved"]);
+    for (direction, line) in lines[2..].iter().enumerate() {
+        let cells: Vec<f64> = line
+            .split_whitespace()
+            .map(|x| x.parse().expect("a number"))
+            .collect();
+        assert_eq!((cells.len(), cells[0]), (5, direction as f64), "{line}");
+        assert!(cells[2] != 0.0 && cells[4] != 0.0, "{line}");
+    }
+    let plain = panel(&["--windows=30", "--warm-up=20", "-k=2"]);
+    assert_eq!(run, stdout(&plain));
+}
+
+#[test]
+fn rows_and_drawing_go_on_through_the_longest_continuation() {
+    let (rows, one) = (scratch("then.csv"), scratch("one.csv"));
+    let drawing = scratch("then.svg");
+    let name = |file: &PathBuf| file.to_str().expect("Unicode").to_string();
+    let files = ["--rows", &name(&rows), "--svg", &name(&drawing)];
+    short(&[&["--windows=30", "--then=2,40,1"], &files[..]].concat());
+    short(&["--windows=70", "--rows", &name(&one)]);
+    let text = |file| fs::read_to_string(file).expect("a file");
+    assert_eq!(text(&rows), text(&one));
+    let svg = text(&drawing);
+    assert_eq!(svg.matches("<polyline ").count(), 3);
+    for end in [">kept<", ">+2<", ">+40<", ">+1<"] {
+        assert_eq!(svg.matches(end).count(), 1, "{end}");
+    }
+    assert_elements_are_closed(&svg);
+    short(&["--windows=30", "--svg", &name(&drawing)]);
+    assert!(!text(&drawing).contains(">kept<"));
+}
+
+#[test]
+fn faint_windows_of_a_continuation_are_warned_of() {
+    let words = [
+        "--system=linear",
+        "--matrix=-1",
+        "--step=1.596",
+        "--steps=270",
+    ];
+    let run = |more: &[&str]| stdout(&panel(&[&words, more].concat()));
+    let run_alone = run(&["--windows=2", "--warm-up=0"]);
+    assert!(run_alone.contains("in 2 of 2 windows"), "{run_alone}");
+    let with_more = run(&["--windows=2", "--warm-up=0", "--then=1,3"]);
+    assert!(with_more.contains("in 5 of 5 windows"), "{with_more}");
+    assert_eq!(with_more.matches("WARNING").count(), 1);
+}
+
+#[test]
+fn refused_continuations_are_told_with_their_option() {
+    let limit =
+        "refused by 5 at place 1: windows is above 16777216 (--windows and --then together)";
+    let told_by = |more: &str| match more {
+        "0" => "refused by 4 at place 0: there are no measured windows",
+        _ => limit,
+    };
+    for more in ["0", "16777215", "16777217", "18446744073709551615"] {
+        let words = ["--system=van-der-pol", "-k=1", "--windows=2"];
+        let output = panel(&[&words[..], &["--then", &format!("1,{more}")]].concat());
+        assert_eq!(output.status.code(), Some(2));
+        let (text, told) = (stdout(&output), stderr(&output));
+        let refused = format!("panel: --then {more}: {}", told_by(more));
+        assert!(told.contains(&refused), "{told}");
+        let heading = format!("+1           moved  {:>14}", format!("+{more}"));
+        assert!(text.contains(&heading), "{text}");
+    }
+    assert_unfit(&["--then", "5,"], "--then: \"\" is no whole number");
+    assert_unfit(&["--windows=0", "--then=5"], "panel: refused by 4");
+    assert_unfit(&["--state=1,2", "--then=5"], "panel: refused by 10");
+}
+
+#[test]
+fn a_continuation_that_is_refused_leaves_its_windows() {
+    let file = scratch("refused_later.csv");
+    let name = file.to_str().expect("Unicode");
+    let growth = ["--system=linear", "--matrix=100", "--step=1", "--warm-up=0"];
+    let then = ["--windows=2", "--then=1,9,8", "--json", "--rows", name];
+    let output = panel(&[&growth[..], &then[..]].concat());
+    assert_eq!(output.status.code(), Some(2));
+    let told = stderr(&output);
+    for more in ["9", "8"] {
+        let refused = format!("panel: --then {more}: refused by 16 at place 0: ");
+        assert!(told.contains(&refused), "{told}");
+    }
+    assert_eq!(told.matches("(finished windows: 4, steps: 46)").count(), 2);
+    let value = json::read(&stdout(&output)).expect("JSON");
+    let then = value.field("continuations").entries();
+    assert_eq!(then[0].field("steps").float(), 30.0);
+    assert_eq!(then[1].field("refused").field("number").float(), 16.0);
+    let finished = then[2].field("refused").field("finished_windows").float();
+    assert_eq!(finished, 4.0);
+    let rows = fs::read_to_string(&file).expect("rows");
+    assert_eq!(rows.lines().count(), 1 + 2 + 2);
+}
+
 /// Every element is opened and closed in turn, and no text holds a bare mark.
 fn assert_elements_are_closed(svg: &str) {
     let mut open = Vec::new();
@@ -391,6 +527,7 @@ fn help() {
         let output = panel(&[word]);
         assert_eq!(output.status.code(), Some(0));
         assert!(stdout(&output).contains("--warm-up"));
+        assert!(stdout(&output).contains("--then"));
     }
 }
 

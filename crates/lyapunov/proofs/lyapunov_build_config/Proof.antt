@@ -3,7 +3,7 @@ use borrow.Author.Needs.{needs}
 use mathlib.Core.Path.{sym, ap, _∙_}
 use Rattle.error.specs.Refusal.{refusal-in}
 use Rattle.benettin.specs.Estimate.{configuration}
-use Rattle.lyapunov.proofs.Runs.{refuses-alike}
+use Rattle.interface.proofs.Refuses.{refuses-alike}
 use Rattle.lyapunov.proofs.lyapunov_build_config.Statement.{statement}
 use Rattle.lyapunov.proofs.lyapunov_build_config.Tie as tie
 

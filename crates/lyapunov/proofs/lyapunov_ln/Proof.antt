@@ -4,7 +4,7 @@ use mathlib.Core.Path.{sym, ap, _∙_}
 use lib.Ieee.{Float}
 use Rattle.error.specs.Refusal.{Answer, number-of, refusal-in}
 use Rattle.ln.specs.Logarithm.{answer}
-use Rattle.lyapunov.specs.Interface.{value-or}
+use Rattle.interface.specs.Interface.{value-or}
 use Rattle.lyapunov.proofs.lyapunov_ln.Statement.{statement}
 use Rattle.lyapunov.proofs.lyapunov_ln.Tie as tie
 

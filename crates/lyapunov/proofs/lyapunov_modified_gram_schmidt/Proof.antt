@@ -2,7 +2,7 @@
 use borrow.Author.Needs.{needs}
 use mathlib.Core.Path.{ap}
 use Rattle.gram_schmidt.specs.GramSchmidt.{Orthonormalised}
-use Rattle.lyapunov.proofs.Runs.{refuses-alike}
+use Rattle.interface.proofs.Refuses.{refuses-alike}
 use Rattle.lyapunov.proofs.lyapunov_modified_gram_schmidt.Statement.{statement}
 use Rattle.lyapunov.proofs.lyapunov_modified_gram_schmidt.Tie as tie
 

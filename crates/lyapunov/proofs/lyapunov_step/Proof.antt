@@ -3,7 +3,7 @@ use borrow.Author.Needs.{needs}
 use mathlib.Core.Path.{ap, _∙_}
 use Rattle.rk4.specs.Step.{Stepped, stepped}
 use Rattle.system.specs.declared.System.{System}
-use Rattle.lyapunov.proofs.Runs.{refuses-alike}
+use Rattle.interface.proofs.Refuses.{refuses-alike}
 use Rattle.lyapunov.proofs.lyapunov_step.Statement.{statement}
 use Rattle.lyapunov.proofs.lyapunov_step.Tie as tie
 

@@ -3,8 +3,8 @@ use borrow.Author.Needs.{needs}
 use mathlib.Core.Path.{ap, _∙_}
 use Rattle.system.specs.declared.System.{System}
 use Rattle.benettin.specs.Estimate.{input, settings, default-seed, problem}
-use Rattle.lyapunov.specs.Interface.{input-refusal}
-use Rattle.lyapunov.proofs.Runs.{refuses-alike}
+use Rattle.interface.specs.Interface.{input-refusal}
+use Rattle.interface.proofs.Refuses.{refuses-alike}
 use Rattle.lyapunov.proofs.lyapunov_validate.Statement.{statement}
 use Rattle.lyapunov.proofs.lyapunov_validate.Tie as tie
 

@@ -7,6 +7,7 @@ mod rates;
 mod run;
 mod settings;
 mod step;
+mod store;
 mod validate;
 
 pub use leaves::{turn_of_library, Draw, Log, Root};
@@ -16,6 +17,7 @@ pub use rates::Rates;
 pub use run::{Outcome, Run};
 pub use settings::Build;
 pub use step::Step;
+pub use store::{Call, Memory, Reference};
 pub use validate::Validate;
 
 use crate::line::Fields;
@@ -51,9 +53,16 @@ pub trait Case: Sized {
 
     /// A line of a list of cases.
     fn line(&self, id: &str, answer: &Answer, remark: &str) -> String {
-        let (kind, input, answer) = (Self::KIND, self.written(), answer.written());
-        format!("{kind} id={id} {input} -> {answer} # {remark}")
+        line(Self::KIND, id, &self.written(), answer, remark)
     }
+}
+
+/// A line of a list of cases.
+pub fn line(kind: &str, id: &str, input: &str, answer: &Answer, remark: &str) -> String {
+    let (id, answer) = (format!("id={id}"), answer.written());
+    let words = [kind, &id, input, "->", &answer, "#", remark];
+    let words: Vec<&str> = words.into_iter().filter(|word| !word.is_empty()).collect();
+    words.join(" ")
 }
 
 /// A case that functions of the proved library answer.
@@ -63,17 +72,26 @@ pub trait Called: Case {
 
     /// The first difference between the library and a reference, or between the two references.
     fn difference(&self, model: &Answer, source: Option<&Answer>) -> Option<String> {
-        let library = match self.library() {
-            Ok(answer) => answer,
-            Err(memory) => return Some(format!("library: {memory}")),
-        };
-        if let Some(difference) = source.and_then(|source| source.difference(&library)) {
-            return Some(format!("library against source: {difference}"));
-        }
-        if let Some(difference) = model.difference(&library) {
-            return Some(format!("library against model: {difference}"));
-        }
-        let between = source.and_then(|source| source.difference(model));
-        between.map(|difference| format!("model against source: {difference}"))
+        difference(self.library(), model, source)
     }
+}
+
+/// The first difference between the library and a reference, or between the two references.
+pub fn difference(
+    library: Result<Answer, String>,
+    model: &Answer,
+    source: Option<&Answer>,
+) -> Option<String> {
+    let library = match library {
+        Ok(answer) => answer,
+        Err(memory) => return Some(format!("library: {memory}")),
+    };
+    if let Some(difference) = source.and_then(|source| source.difference(&library)) {
+        return Some(format!("library against source: {difference}"));
+    }
+    if let Some(difference) = model.difference(&library) {
+        return Some(format!("library against model: {difference}"));
+    }
+    let between = source.and_then(|source| source.difference(model));
+    between.map(|difference| format!("model against source: {difference}"))
 }

@@ -5,7 +5,7 @@ use crate::circuit::Circuit;
 use crate::lent::Lent;
 use crate::line::Fields;
 use crate::values::{bits, list, Answer, Value, FILLING};
-use input::{Refusal, Settings};
+use input::{Refusal, Settings, MAX_DIMENSION};
 use lyapunov_sys::{Arguments, Outputs};
 use oracle::{End, Entry, Source, Start};
 
@@ -59,27 +59,12 @@ impl Case for Run {
     }
 
     fn model(&self) -> Answer {
-        let [mut rows, mut exponents, mut final_state] =
-            [self.rows, self.exponents, self.final_state].map(|length| vec![FILLING; length]);
-        let mut outputs = model::Outputs {
-            rows: &mut rows,
-            exponents: &mut exponents,
-            final_state: &mut final_state,
-        };
         let (system, settings) = (&self.circuit.system, &self.settings);
-        let estimate = model::estimate(system, self.time, &self.state, settings, &mut outputs);
-        let outcome = Outcome {
-            refusal: estimate.refusal.unwrap_or(Refusal::NONE),
-            finished: estimate.finished,
-            steps: estimate.steps,
-            faint: estimate.faint.to_vec(),
-            final_time: estimate.final_time,
-            measured_time: estimate.measured_time,
-            rows,
-            exponents,
-            final_state,
-        };
-        outcome.answer()
+        let answer = self.answer_of_model(|outputs| {
+            let estimate = model::estimate(system, self.time, &self.state, settings, outputs);
+            Some(estimate)
+        });
+        answer.expect("the answer of a run is never free")
     }
 
     /// The source has no 13 and no faint counts, and it drops the rows of a refused run; these are
@@ -183,8 +168,59 @@ impl Run {
         }
     }
 
+    /// The answer of the run that `call` makes in the model; nothing where it is free.
+    pub fn answer_of_model(
+        &self,
+        call: impl FnOnce(&mut model::Outputs) -> Option<model::Estimate>,
+    ) -> Option<Answer> {
+        let [mut rows, mut exponents, mut final_state] =
+            [self.rows, self.exponents, self.final_state].map(|length| vec![FILLING; length]);
+        let estimate = call(&mut model::Outputs {
+            rows: &mut rows,
+            exponents: &mut exponents,
+            final_state: &mut final_state,
+        })?;
+        let outcome = Outcome {
+            refusal: estimate.refusal.unwrap_or(Refusal::NONE),
+            finished: estimate.finished,
+            steps: estimate.steps,
+            faint: estimate.faint.to_vec(),
+            final_time: estimate.final_time,
+            measured_time: estimate.measured_time,
+            rows,
+            exponents,
+            final_state,
+        };
+        Some(outcome.answer())
+    }
+
+    /// The answer of a run that is refused before it begins.
+    pub fn answer_untouched(&self, refusal: Refusal) -> Answer {
+        let nothing = |length: usize| vec![FILLING; length];
+        let outcome = Outcome {
+            refusal,
+            finished: 0,
+            steps: 0,
+            faint: vec![0; MAX_DIMENSION],
+            final_time: 0.0,
+            measured_time: 0.0,
+            rows: nothing(self.rows),
+            exponents: nothing(self.exponents),
+            final_state: nothing(self.final_state),
+        };
+        outcome.answer()
+    }
+
     /// The library's run.
     pub fn outcome(&self) -> Result<Outcome, String> {
+        self.outcome_of(|system, state, outputs| self.run_of_library(system, state, outputs))
+    }
+
+    /// The run that `call` makes in the library, with slices lent to it.
+    pub fn outcome_of(
+        &self,
+        call: impl FnOnce(Arguments, &[f64], &mut Outputs) -> u64,
+    ) -> Result<Outcome, String> {
         let arguments = self.circuit.arguments();
         let matrix = Lent::input("mat", arguments.matrix);
         let state = Lent::input("x0", &self.state);
@@ -204,7 +240,7 @@ impl Run {
             matrix: matrix.slice(),
             ..arguments
         };
-        let number = self.run_of_library(lent, state.slice(), &mut outputs);
+        let number = call(lent, state.slice(), &mut outputs);
         matrix.unchanged(arguments.matrix)?;
         state.unchanged(&self.state)?;
         let (counts, times) = (counts.returned()?, times.returned()?);
@@ -232,6 +268,19 @@ impl Run {
         }
     }
 
+    /// What the source answers to this run after `earlier` windows: that of its one run of all
+    /// windows, without the earlier rows.
+    pub fn later_by_source(&self, source: &dyn Source, earlier: u64) -> Option<Answer> {
+        let mut all = self.clone();
+        let before = self.settings.row_width().saturating_mul(earlier as usize);
+        if self.settings.windows > 0 {
+            all.settings.windows = earlier.saturating_add(self.settings.windows);
+            all.rows = all.rows.saturating_add(before);
+        }
+        let answer = all.source(source)?;
+        Some(answer.map("rows", |rows| rows.without_first(before)))
+    }
+
     fn has_short_output(&self) -> bool {
         self.rows < self.settings.rows_length()
             || self.exponents < self.settings.top_k
@@ -247,7 +296,9 @@ impl Run {
                 _ => None,
             };
         }
-        let refusal = match self.run_of_source(source, self.settings.windows, false).end {
+        // It asks for the memory of all its windows before it is stopped.
+        let windows = self.settings.windows.min(1);
+        let refusal = match self.run_of_source(source, windows, false).end {
             End::Refused(refusal) if refusal.number <= 12 => refusal,
             _ => Refusal::NONE,
         };
@@ -294,7 +345,7 @@ impl Run {
 }
 
 impl Outcome {
-    fn answer(self) -> Answer {
+    pub fn answer(self) -> Answer {
         let times = [self.final_time, self.measured_time];
         let [final_time, measured_time] = times.map(|time| self.time(time));
         Answer::refusal(self.refusal)

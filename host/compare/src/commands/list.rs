@@ -1,9 +1,11 @@
 //! The fixed list of answers, which is replayed where the source is not at hand.
 
 use super::many::{run_label, step_label, unlabelled};
-use crate::cases::{Build, Case, Draw, Log, Orth, Program, Rates, Root, Run, Step, Validate};
+use crate::cases::{
+    Build, Case, Draw, Log, Orth, Program, Rates, Reference, Root, Run, Step, Validate,
+};
 use crate::circuit::{Systems, RING};
-use crate::generate::{self, counts, edges, patterns, seeds};
+use crate::generate::{self, counts, edges, kept, patterns, seeds};
 use crate::random::Random;
 use crate::tally::Tally;
 use crate::values::Answer;
@@ -23,7 +25,8 @@ const HEADER: &str = "\
 # stands what is handed in, right of it what comes back. A float is the 16 hexadecimal digits of
 # its bits, and so are seeds, states and outputs of the generator; counts are decimal. Lists are
 # parted by commas, - is the empty list or no value, and . is an entry of an output that keeps
-# what it held. An answered NaN stands for every NaN.
+# what it held. An answered NaN stands for every NaN. Each case stands for itself, but those of the
+# kinds empty, keep, go-on and forget: these are calls of one store in the order of their lines.
 ";
 
 /// What stands before the cases of request a.
@@ -37,6 +40,15 @@ const COUNTS: &str = "\
 # Counts at their limit and over it: document 02's request b. The place of 5 is the first count that
 # is over, in the order 0 steps, 1 windows, 2 warm-up. A validate case is the tests of a run that do
 # not look at its outputs.
+";
+
+/// What stands before the cases of request c.
+const KEPT: &str = "\
+# States kept under a number: document 02's request c. There is one store. empty makes one that keeps
+# nothing. keep is a run, with the fields of one, whose end is kept under number=0 to 255 where it is
+# not refused. go-on goes on from there for the windows that it brings: it answers what one run of
+# all windows does, and its rows are the later ones. forget forgets, and answers num and place alone.
+# by=oracle: the source made all windows in one run. by=model: it has no 26 and no 27 either.
 ";
 
 /// Lines longer than this are not taken from the random inputs.
@@ -57,6 +69,7 @@ pub fn write_list() -> Result<String, String> {
     list.settings_and_rates()?;
     list.rings()?;
     list.counts()?;
+    list.kept()?;
     println!("{} cases, {} bytes", list.cases, list.text.len());
     Ok(list.text)
 }
@@ -71,18 +84,27 @@ struct List {
 impl List {
     /// Adds a case, once the model and the source agree on it.
     fn add<C: Case>(&mut self, case: &C, remark: &str) -> Result<(), String> {
-        let model = case.model();
-        let source = case.source(self.source);
-        if let Some(difference) = source.as_ref().and_then(|source| source.difference(&model)) {
-            return Err(format!(
-                "model against source: {difference}: {}",
-                case.written()
-            ));
-        }
-        let by = if source.is_some() { "oracle" } else { "model" };
+        let (model, source) = (case.model(), case.source(self.source));
+        self.add_agreed(&model, source, |id, by| {
+            case.line(id, &model, &format!("by={by}, {remark}"))
+        })
+    }
+
+    /// Adds a line, once the model and the source agree on its answer. It is made of its id and of
+    /// whom the answer is by.
+    fn add_agreed(
+        &mut self,
+        model: &Answer,
+        source: Option<Answer>,
+        line: impl Fn(&str, &str) -> String,
+    ) -> Result<(), String> {
         self.cases += 1;
         let id = format!("L{:04}", self.cases);
-        let line = case.line(&id, &model, &format!("by={by}, {remark}"));
+        let by = if source.is_some() { "oracle" } else { "model" };
+        let line = line(&id, by);
+        if let Some(difference) = source.and_then(|source| source.difference(model)) {
+            return Err(format!("model against source: {difference}: {line}"));
+        }
         self.text.push_str(&line);
         self.text.push('\n');
         Ok(())
@@ -265,6 +287,20 @@ impl List {
                 settings.transient_windows = 0;
                 self.add(&run(&settings), &format!("{remark}, no warm-up"))?;
             }
+        }
+        Ok(())
+    }
+
+    /// Calls of one store.
+    fn kept(&mut self) -> Result<(), String> {
+        self.text.push_str(KEPT);
+        let mut reference = Reference::default();
+        for (call, remark) in kept::calls() {
+            let answers = reference.answers(&call, Some(self.source));
+            let (model, source) = answers.ok_or_else(|| format!("free: {}", call.written()))?;
+            self.add_agreed(&model, source, |id, by| {
+                call.line(id, &model, &format!("by={by}, {remark}"))
+            })?;
         }
         Ok(())
     }

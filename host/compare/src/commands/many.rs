@@ -159,29 +159,23 @@ pub fn step_label(step: &Step, answer: &Answer) -> String {
 
 /// Where a run was refused, or what is special in its answer.
 pub fn run_label(run: &Run, answer: &Answer) -> String {
-    let count = |name: &str| match answer.get(name) {
-        Some(Value::Count(count)) => *count,
-        _ => 0,
-    };
     let infinite = |name: &str| match answer.get(name) {
         Some(Value::Float(x)) => x.is_infinite(),
         Some(Value::Floats(values)) => values.iter().any(|x| x.is_infinite()),
         _ => false,
     };
-    let faint =
-        matches!(answer.get("faint"), Some(Value::Counts(counts)) if counts.iter().any(|n| *n > 0));
     let steps = run.settings.steps_per_window;
     let warm_up = steps.saturating_mul(run.settings.transient_windows);
     let collapsed = answer.number() == 14;
     let label = match answer.number() {
         0 if infinite("mtime") => INFINITE_TIME,
         0 if infinite("rows") || infinite("exps") => INFINITE_RATE,
-        0 if faint => FAINT,
+        0 if answer.is_faint() => FAINT,
         0 => run.circuit.label(),
-        14 if count("made") == 0 => AT_DRAW,
-        14 | 16 | 17 | 18 if count("finished") > 0 => AFTER_ROWS,
+        14 if answer.count("made") == 0 => AT_DRAW,
+        14 | 16 | 17 | 18 if answer.count("finished") > 0 => AFTER_ROWS,
         // A collapse counts the steps of its window, the others do not count their step.
-        14 | 16 | 17 | 18 if count("made") + u64::from(!collapsed) <= warm_up => IN_WARM_UP,
+        14 | 16 | 17 | 18 if answer.count("made") + u64::from(!collapsed) <= warm_up => IN_WARM_UP,
         14 | 16 | 17 | 18 => BEFORE_ROWS,
         _ => "",
     };

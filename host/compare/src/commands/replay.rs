@@ -2,7 +2,7 @@
 
 use super::{Differences, PRINTED};
 use crate::cases::{
-    Build, Called, Case, Draw, Log, Orth, Program, Rates, Root, Run, Step, Validate,
+    Build, Call, Called, Case, Draw, Log, Memory, Orth, Program, Rates, Root, Run, Step, Validate,
 };
 use crate::line::Line;
 use crate::values::Answer;
@@ -28,6 +28,7 @@ enum Replayed {
 /// Replays every case of `text`; `program` is the path of the program `spectrum`.
 pub fn replay(text: &str, program: Option<&Path>) -> Result<bool, String> {
     let mut counts: BTreeMap<String, Count> = BTreeMap::new();
+    let mut store = None;
     let mut differences = Differences::default();
     for (number, text) in text.lines().enumerate() {
         if text.is_empty() || text.starts_with('#') {
@@ -36,7 +37,7 @@ pub fn replay(text: &str, program: Option<&Path>) -> Result<bool, String> {
         let in_line = |error: String| format!("line {}: {error}", number + 1);
         let line = Line::read(text).map_err(in_line)?;
         let (kind, id) = (line.kind.to_string(), line.id.to_string());
-        let replayed = replay_line(line, program).map_err(in_line)?;
+        let replayed = replay_line(line, program, &mut store).map_err(in_line)?;
         let count = counts.entry(kind).or_default();
         match replayed {
             Replayed::Same => count.compared += 1,
@@ -70,7 +71,12 @@ fn print_counts(counts: &BTreeMap<String, Count>) -> bool {
     compared > 0 && differ == 0
 }
 
-fn replay_line(line: Line, program: Option<&Path>) -> Result<Replayed, String> {
+/// `store` is that of the lines before; the first of its calls must empty it.
+fn replay_line(
+    line: Line,
+    program: Option<&Path>,
+    store: &mut Option<Memory>,
+) -> Result<Replayed, String> {
     match line.kind {
         Root::KIND => replay_case::<Root>(line),
         Log::KIND => replay_case::<Log>(line),
@@ -82,16 +88,33 @@ fn replay_line(line: Line, program: Option<&Path>) -> Result<Replayed, String> {
         Build::KIND => replay_case::<Build>(line),
         Validate::KIND => replay_case::<Validate>(line),
         Program::KIND => replay_program(line, program),
+        kind if Call::KINDS.contains(&kind) => replay_call(line, store),
         kind => Err(format!("unknown kind {kind}")),
     }
 }
 
+fn replay_call(mut line: Line, store: &mut Option<Memory>) -> Result<Replayed, String> {
+    let call = Call::read(line.kind, &mut line.input)?;
+    line.input.finish()?;
+    let expected = line.answer.answer(call.answer())?;
+    if matches!(call, Call::Empty) {
+        store.get_or_insert_default();
+    }
+    let store = store.as_mut().ok_or("no empty stands before it")?;
+    Ok(answered(&expected, store.answer(&call)))
+}
+
 fn replay_case<C: Called>(line: Line) -> Result<Replayed, String> {
     let (case, expected) = read::<C>(line)?;
-    Ok(match case.library() {
-        Ok(answer) => replayed(&expected, &answer),
+    Ok(answered(&expected, case.library()))
+}
+
+/// What became of a case that the library answers.
+fn answered(expected: &Answer, library: Result<Answer, String>) -> Replayed {
+    match library {
+        Ok(answer) => replayed(expected, &answer),
         Err(memory) => Replayed::Differs(memory),
-    })
+    }
 }
 
 fn replay_program(line: Line, program: Option<&Path>) -> Result<Replayed, String> {

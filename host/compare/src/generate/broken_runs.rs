@@ -77,6 +77,17 @@ pub fn broken(index: u64, random: &mut Random) -> Run {
     run
 }
 
+/// A run for each failing test.
+pub fn each(random: &mut Random) -> Vec<Run> {
+    let breaks = tests_of(&BREAKS, random);
+    let mut failing = |fail: &Break| {
+        let mut run = whole_run(random);
+        fail(&mut run, random);
+        run
+    };
+    breaks.iter().map(|(_, fail)| failing(fail)).collect()
+}
+
 /// Runs that fail two tests next to each other in the order of tests.
 pub fn neighbours(random: &mut Random) -> Vec<Run> {
     let breaks = tests_of(&BREAKS, random);

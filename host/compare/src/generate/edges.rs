@@ -57,7 +57,7 @@ pub fn row_of_negative_zeros() -> Step {
     }
 }
 
-fn rossler(a: f64, b: f64, c: f64) -> Circuit {
+pub fn rossler(a: f64, b: f64, c: f64) -> Circuit {
     Circuit::of(System::Rossler { a, b, c })
 }
 
@@ -73,7 +73,7 @@ pub fn rossler_at_zero() -> Step {
 }
 
 /// A linear run with one step a window, from a state of ones at time 0.
-fn linear_run(circuit: Circuit, top_k: usize, step_size: f64) -> Run {
+pub fn linear_run(circuit: Circuit, top_k: usize, step_size: f64) -> Run {
     let d = circuit.dimension();
     Run::fitting(circuit, settings(top_k, step_size), 0.0, vec![1.0; d])
 }
@@ -190,7 +190,8 @@ pub fn pairs_of_demand_3() -> Vec<(Run, &'static str)> {
     runs
 }
 
-fn with_windows(run: Run, windows: u64) -> Run {
+/// The same run with so many windows, and outputs that just fit.
+pub fn with_windows(run: Run, windows: u64) -> Run {
     let mut settings = run.settings;
     settings.windows = windows;
     Run::fitting(run.circuit, settings, run.time, run.state)
@@ -225,7 +226,7 @@ fn uneven(d: usize) -> Vec<f64> {
 
 /// A run of a ring with one step a window, from uneven cells at time 0. Where it has very many
 /// cells, no memory has room for them.
-fn ring_run(cells: usize, forcing: f64, top_k: usize) -> Run {
+pub fn ring_run(cells: usize, forcing: f64, top_k: usize) -> Run {
     let state = uneven(cells.min(17));
     let length = state.len();
     let mut run = Run::fitting(ring(cells, forcing), settings(top_k, 0.0625), 0.0, state);

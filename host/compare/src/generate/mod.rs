@@ -4,6 +4,7 @@ pub mod broken_runs;
 pub mod circuits;
 pub mod counts;
 pub mod edges;
+pub mod kept;
 pub mod orth;
 pub mod patterns;
 pub mod rates;
@@ -11,6 +12,7 @@ pub mod runs;
 pub mod seeds;
 pub mod settings;
 pub mod step;
+pub mod stores;
 
 use crate::random::Random;
 

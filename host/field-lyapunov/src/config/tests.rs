@@ -116,7 +116,7 @@ fn validation() {
     }
 }
 
-/// The crate's functions answer what validation does. The library's run tests again.
+/// The library's own run, which tests what its validation does.
 #[test]
 fn runs_of_the_library() {
     for (config, first) in configs(&ROWS) {

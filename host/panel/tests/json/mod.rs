@@ -26,8 +26,12 @@ impl Value {
     }
 
     pub fn floats(&self) -> Vec<f64> {
+        self.entries().iter().map(Value::float).collect()
+    }
+
+    pub fn entries(&self) -> &[Value] {
         match self {
-            Value::List(entries) => entries.iter().map(Value::float).collect(),
+            Value::List(entries) => entries,
             other => panic!("no list: {other:?}"),
         }
     }

@@ -8,11 +8,18 @@ use Rattle.estimator.proofs.WholeRun.{completed-is}
 use Rattle.estimator.proofs.estimate.complete.Statement.{statement}
 use Rattle.estimator.proofs.estimate.complete.Tie as tie
 
+-- the places before one another in the code
+abbrev tangents-lent : tie.After-end-arg3 → tie.After-tangents
+tangents-lent c = c .before .before .before .before .before .before .before .before
+
+abbrev entered : tie.After-measure → tie.After-slice-known3
+entered c = c .before .before .before .before .before .before .before .before
+
 abbrev measured : tie.After-end-arg3 → tie.After-measure
-measured c = c .before .before .before .before .before .before .before .before .before .before .before
+measured c = (tangents-lent c) .before .before .before
 
 abbrev start : tie.After-measure → tie.Start
-start c = c .before .before .before .before .before .before .before .before .before .before .before .before
+start c = (entered c) .before .before .before .before
 
 measure-requires : tie.Need-measure-requires
 measure-requires c κs = search needs

@@ -2,7 +2,7 @@
 use borrow.Author.Needs.{needs}
 use native.Mathlib.Omega.{arith}
 use mathlib.Core.Path.{refl, ap, _∙_}
-use Prim.Native.Nat.{ℕ, _+_, _*_}
+use Prim.Native.Nat.{ℕ, _*_}
 use Rattle.benettin.specs.Estimate.{Input, input, limit}
 use Rattle.totals.specs.Progress.{held}
 use Rattle.progress.specs.UnderWay.{Fits}
@@ -11,18 +11,31 @@ use Rattle.estimator.proofs.WholeRun.{course-is, run-done}
 use Rattle.estimator.proofs.estimate.run.Statement.{statement}
 use Rattle.estimator.proofs.estimate.run.Tie as tie
 
+-- the places before one another in the code
+abbrev entered : tie.After-begin → tie.After-slice-known2
+entered c = c .before .before .before .before .before .before .before .before
+
+abbrev norms2-lent : tie.After-complete → tie.After-norms2
+norms2-lent c = c .before .before .before .before .before .before .before .before
+
+abbrev returned : tie.After-slice-known17 → tie.After-slice-known13
+returned c = c .before .before .before .before .before .before .before .before
+
+abbrev returned-from-complete-arg6 : tie.After-complete-arg6 → tie.After-slice-known10
+returned-from-complete-arg6 c = c .before .before .before .before .before .before .before .before
+
 -- the start, and the calls, that are before a place in the code
 abbrev start : tie.After-begin → tie.Start
-start c = c .before .before .before .before .before .before .before .before .before .before .before
+start c = (entered c) .before .before .before
 
 abbrev begun : tie.After-warm-up → tie.After-begin
 begun c = c .before .before .before .before .before .before .before .before
 
 abbrev ready : tie.After-complete → tie.After-warm-up
-ready c = c .before .before .before .before .before .before .before .before .before .before .before .before .before
+ready c = (norms2-lent c) .before .before .before .before .before
 
 abbrev done : tie.After-slice-known17 → tie.After-complete
-done c = c .before .before .before .before .before .before .before .before .before .before .before .before
+done c = (returned c) .before .before .before .before
 
 abbrev input-of : tie.Start → Input
 input-of c = let a = c .args in input (a .system) (a .matrix .now) (a .time) (a .state .now) (a .config)
@@ -61,7 +74,7 @@ warm-up-requires c κs =
 
 complete-requires : tie.Need-complete-requires
 complete-requires c κs =
-    let w = c .before .before .before .before .before .before .before .before .before .before .before .before in
+    let w = (returned-from-complete-arg6 c) .before .before .before .before in
     let r = start (begun w) .pre .0 in
     record {
       fits = fits-up (r .steps-limit) (omega arith) (omega arith) (before-measured w);

@@ -2,7 +2,7 @@
 use borrow.Author.Needs.{needs}
 use Prim.Native.Nat.{ℕ, _*_, _≤_}
 use native.Mathlib.Omega.{arith}
-use mathlib.Core.Path.{_≡_, refl, sym, ap, subst, _∙_}
+use mathlib.Core.Path.{_≡_, sym, ap, subst, _∙_}
 use mathlib.Core.List.{List, _++_}
 use mathlib.Core.Option.{none}
 use lib.ListN.{length, take, length-append}
@@ -21,11 +21,21 @@ use Rattle.estimator.proofs.WholeRun.{ran-refused, ran-done, front, few
 use Rattle.estimator.proofs.estimate.run_in.Statement.{statement}
 use Rattle.estimator.proofs.estimate.run_in.Tie as tie
 
+-- the places before one another in the code
+abbrev entered : tie.After-validate → tie.After-shared-slice-known
+entered c = c .before .before .before .before .before .before .before .before
+
+abbrev returned : tie.After-slice-known13 → tie.After-slice-known9
+returned c = c .before .before .before .before .before .before .before .before
+
+abbrev moving-lent : tie.After-run → tie.After-moving
+moving-lent c = c .before .before .before .before .before .before .before .before
+
 abbrev input-of : tie.Start → Input
 input-of c = input (c .args .system) (c .args .matrix .now) (c .args .time) (c .args .state .now) (c .args .config)
 
 abbrev start : tie.After-validate → tie.Start
-start c = c .before .before .before .before .before .before .before .before .before
+start c = (entered c) .before
 
 -- what is known behind the tests
 module _ (c : tie.After-enum-told) where
@@ -142,15 +152,16 @@ same-length-6 c = search needs
 
 returns-2 : tie.Need-returns-2
 returns-2 c =
-    let r = c .before .before .before .before .before .before .before .before .before .before .before .before in
-    let b = r .before .before .before .before .before .before .before .before .before in
+    let r = (returned c) .before .before .before .before in
+    let b = (moving-lent r) .before in
     let t = tested b in
     let a = s t .args in
     let e = copied b _ in
     let n = r .run .kept .1 .1 .1 in
     let l = r .run .last .1 .1 .1 in
+    let o = l .1 .1 .1 in
     ran-done (input-of (s t)) (k t) (a .rows .now) (a .exponents .now) (a .final-state .now) _ _ (passed t)
-    (subst (λ (x : List Float). RunDone (input (a .system) (a .matrix .now) (a .time) x (a .config)) (k t) (a .rows .now) (a .exponents .now) (a .final-state .now) (r .run .result) (held (l .0) (l .1 .0) (l .1 .1 .0) (r .run .result .progress)) (l .1 .1 .1 .0) (l .1 .1 .1 .1 .0) (l .1 .1 .1 .1 .1 .0)) e (r .run .ensures))
+    (subst (λ (x : List Float). RunDone (input (a .system) (a .matrix .now) (a .time) x (a .config)) (k t) (a .rows .now) (a .exponents .now) (a .final-state .now) (r .run .result) (held (l .0) (l .1 .0) (l .1 .1 .0) (r .run .result .progress)) (o .0) (o .1 .0) (o .1 .1 .0)) e (r .run .ensures))
     (take-at _ _ (d t) (n .0 ∙ ap length e)) (take-at _ _ (k t * d t) (n .1 .0 ∙ length-take-le _ _ (room t)))
 
 pub run-in-spec : {M : Type 1} → statement M
