@@ -374,7 +374,8 @@ uint64_t lyapunov_step(
     double step_size, uint64_t *place);
 
 /*
- * Modified Gram-Schmidt, with each direction cleared of the earlier ones twice.
+ * Modified Gram-Schmidt, with each direction cleared of the earlier ones twice. Dot products and
+ * squared lengths are sums in index order from -0.0.
  *
  *   tangents    count = tangents_len / dimension directions one after the other; leftover entries
  *               are not touched
@@ -399,7 +400,8 @@ uint64_t lyapunov_kaplan_yorke_dimension(
 
 /*
  * The sum of the exponents above 0, in index order, to *out: the spectrum's side of Pesin's
- * identity. Tests 20, 21, 22; refused, *out is not touched. The sum may be infinite.
+ * identity. The sum starts at -0.0, which is the answer where none is above 0; it may be infinite.
+ * Tests 20, 21, 22; refused, *out is not touched.
  */
 uint64_t lyapunov_kolmogorov_sinai_entropy(
     const double *exponents, size_t exponents_len, double *out, uint64_t *place);

@@ -85,7 +85,7 @@ static void step(double x[D], double t[D][D]) {
 }
 
 static double dot(const double a[D], const double b[D]) {
-    double s = 0;
+    double s = -0.0;
     for (int i = 0; i < D; i++) s += a[i] * b[i];
     return s;
 }

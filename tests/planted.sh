@@ -247,6 +247,17 @@ wrong "$from_zero" 'another seed' 'lyapunov_estimate_largest: '
 wrong "$from_zero" 'one warm-up' 'lyapunov_estimate_largest: made'
 wrong "$(first '^rates .*num=0')" 'dimension for entropy' 'lyapunov_kolmogorov_sinai_entropy: ent'
 
+# Zeros with the sign of sums from the other zero, in the list and in each function that has one.
+turned=$(first '^orth .* by sums from \+0\.0') none_positive=$(first '^rates .* ent=8000000000000000 ')
+a_row=$(first "^step .*a row's sum starts at \+0\.0")
+edited "$turned" 's/(-> .* dirs=.*),0{16} /\1,8000000000000000 /' 'dirs, entry 5: 0000000000000000, listed 8000'
+edited "$none_positive" 's/ent=8/ent=0/' 'ent, entry 0: 8000000000000000, listed 0000'
+edited "$a_row" 's/(-> .* state=)0/\18/' 'state, entry 0: 0000000000000000, listed 8000'
+answer '^prog .*\|8000000000000000 ' 's/\|8/|0/' 'prints 0000000000000000|8000000000000000, listed 0000'
+wrong "$turned" 'dot product from the other zero' 'dirs, entry 5: 8000000000000000, listed 0000'
+wrong "$none_positive" 'entropy from the other zero' 'ent, entry 0: 0000000000000000, listed 8000'
+wrong "$a_row" 'row from the other zero' 'state, entry 0: 8000000000000000, listed 0000'
+
 # Libraries that take a ring otherwise. A ring reads no matrix: one of NaNs that a linear system would
 # accept is lent to it.
 a_ring=$(first "$ring")

@@ -105,6 +105,13 @@ static void turn(double *at, size_t length, size_t dimension) {
         }
 }
 
+/* Sums that start at the other zero: a zero has the other sign than it should have. */
+static void turn_zeros(const char *sum, double *at, size_t length) {
+    if (!is_wrong(sum, "from the other zero")) return;
+    for (size_t i = 0; i < length; i++)
+        if (at[i] == 0) at[i] = -at[i];
+}
+
 uint64_t __wrap_lyapunov_ln(double x, double *out) {
     handed("out", out, 1);
     return spoiled(lyapunov_ln(x, out));
@@ -116,8 +123,10 @@ uint64_t __wrap_lyapunov_modified_gram_schmidt(
     handed("tangents", tangents, tangents_len);
     handed("numbers", numbers, numbers_len);
     handed("place", place, 1);
-    return spoiled(lyapunov_modified_gram_schmidt(tangents, tangents_len, dimension, numbers,
-                                                  numbers_len, place));
+    uint64_t n = lyapunov_modified_gram_schmidt(tangents, tangents_len, dimension, numbers,
+                                                numbers_len, place);
+    turn_zeros("dot product", tangents, tangents_len);
+    return spoiled(n);
 }
 
 uint64_t __wrap_lyapunov_step(
@@ -135,6 +144,7 @@ uint64_t __wrap_lyapunov_step(
                                state_len, tangents, tangents_len, count, step_size, place);
     turn(state, state_len, dimension);
     turn(tangents, tangents_len, dimension);
+    turn_zeros("row", state, state_len);
     return spoiled(of_cells(n, dimension, state_len));
 }
 
@@ -414,5 +424,7 @@ uint64_t __wrap_lyapunov_kolmogorov_sinai_entropy(
     const double *exponents, size_t exponents_len, double *out, uint64_t *place) {
     if (is_wrong("dimension for", "entropy"))
         return lyapunov_kaplan_yorke_dimension(exponents, exponents_len, out, place);
-    return lyapunov_kolmogorov_sinai_entropy(exponents, exponents_len, out, place);
+    uint64_t n = lyapunov_kolmogorov_sinai_entropy(exponents, exponents_len, out, place);
+    turn_zeros("entropy", out, 1);
+    return n;
 }

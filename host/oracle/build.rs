@@ -1,9 +1,11 @@
 //! Prepares the four files of the Rust source for the oracle.
 //!
-//! They are taken as they are, but for the two substitutions of document 01: every float sum
-//! folds from 0.0, and the logarithm is document 01's. How often each place occurs is asserted,
-//! so that another source is noticed. Nothing of the source is kept in the repository: where it
-//! is not at hand, the crate is built without it.
+//! They are taken as they are, but for two substitutions: every float sum folds from −0.0, as
+//! document 02, d) says, and the logarithm is document 01's. The library's own sum begins at −0.0
+//! too, since rustc 1.95 at the latest: the files that have sums are written a second time with it,
+//! and a test holds both to the same bits. How often each place occurs is asserted, so that another
+//! source is noticed. Nothing of the source is kept in the repository: where it is not at hand, the
+//! crate is built without it.
 
 use std::path::{Path, PathBuf};
 use std::{env, fs};
@@ -11,7 +13,7 @@ use std::{env, fs};
 /// Where the source stands, seen from this package.
 const SOURCE: &str = "../../../shared/docs/src/field-lyapunov/src";
 
-const FOLD: &str = ".fold(0.0_f64, |sum: f64, term: f64| sum + term)";
+const FOLD: &str = ".fold(-0.0_f64, |sum: f64, term: f64| sum + term)";
 const LOGARITHM: &str = "crate::logarithm::document_logarithm(norm)";
 
 /// A file, and how often each substituted place occurs in it.
@@ -65,20 +67,30 @@ fn main() {
     if !FILES.iter().all(|file| folder.join(file.name).is_file()) {
         return;
     }
+    let own_sums = out.join("own_sums");
+    fs::create_dir_all(&own_sums).expect("a writable OUT_DIR");
     for file in &FILES {
         let text = fs::read_to_string(folder.join(file.name)).expect("a readable source file");
-        fs::write(out.join(file.name), substituted(file, &text)).expect("a writable OUT_DIR");
+        let text = with_logarithm(file, &text);
+        fs::write(own_sums.join(file.name), &text).expect("a writable OUT_DIR");
+        fs::write(out.join(file.name), with_folds(file, &text)).expect("a writable OUT_DIR");
     }
     println!("cargo:rustc-cfg=source_available");
 }
 
-fn substituted(file: &SourceFile, text: &str) -> String {
+fn with_logarithm(file: &SourceFile, text: &str) -> String {
+    let text = replaced(file, text, "norm.ln()", LOGARITHM, file.logarithms);
+    without(".ln(", file, text)
+}
+
+fn with_folds(file: &SourceFile, text: &str) -> String {
     let text = replaced(file, text, ".sum::<f64>()", FOLD, file.typed_sums);
     let text = replaced(file, &text, ".sum()", FOLD, file.sums);
-    let text = replaced(file, &text, "norm.ln()", LOGARITHM, file.logarithms);
-    for left in [".sum", ".ln("] {
-        assert!(!text.contains(left), "{}: {left} is left over", file.name);
-    }
+    without(".sum", file, text)
+}
+
+fn without(left: &str, file: &SourceFile, text: String) -> String {
+    assert!(!text.contains(left), "{}: {left} is left over", file.name);
     text
 }
 

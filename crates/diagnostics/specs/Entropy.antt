@@ -2,11 +2,11 @@
 use mathlib.Core.Bool.{cond}
 use mathlib.Core.List.{List, [], _∷_}
 use lib.Ieee.{Float, add, lt}
-use Rattle.floats.specs.Arithmetic.{_⊕_, zero⁺}
+use Rattle.floats.specs.Arithmetic.{_⊕_, zero⁺, zero⁻}
 
--- where the sum starts
+-- where the sum starts: document 02, d)
 abbrev pub entropy-start : Float
-entropy-start = zero⁺
+entropy-start = zero⁻
 
 -- s and the entries above 0, added in the order given
 unfoldable pub sum-positive : Float → List Float → Float

@@ -122,10 +122,11 @@ pub fn kaplan_yorke_dimension(exponents: &[f64]) -> Diagnostic
     }
 }
 
+// The sum of the entries above 0, which starts at -0.0 (document 02, d).
 fn sum_positive(xs: &[f64]) -> f64
     ensures { λ r. ⌜ r ≡ Entropy.kolmogorov-sinai (now (xs .entry)) ⌝ }
 {
-    let mut sum = 0.0;
+    let mut sum = -0.0;
     let mut i = 0;
     while i < xs.len() {
         let x = xs[i];

@@ -29,9 +29,12 @@ whole n = ofInt binary64 (pos n)
 abbrev pub minus : ℕ → Float
 minus n = neg (whole n)
 
--- +0.0
+-- +0.0 and -0.0
 abbrev pub zero⁺ : Float
 zero⁺ = fin false 0 (pos 0)
+
+abbrev pub zero⁻ : Float
+zero⁻ = fin true 0 (pos 0)
 
 abbrev pub one : Float
 one = fin false 1 (pos 0)

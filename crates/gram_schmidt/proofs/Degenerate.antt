@@ -24,7 +24,7 @@ use Rattle.floats.specs.Vector.{dot-from}
 use lib.Ieee.Scale.{finite}
 
 -- no sign of its own
-abbrev unsigned : Float → Bool
+abbrev pub unsigned : Float → Bool
 unsigned nan = true
 unsigned (inf s) = not s
 unsigned (fin s m e) = not s
@@ -98,7 +98,7 @@ zero-low s e = go s (zero * up e * down (negsuc 1021)) (1 * up (negsuc 1021) * d
     go true a b z p = rw (lt-ltb 0 (a + b) (omega arith))
     go false a b z p = rw (lt-ltb a b (omega arith))
 
-of-zero : (s : Bool) (e : ℤ) → collapsed (root (fin s zero e)) ≡ degenerate (fin s zero e)
+pub of-zero : (s : Bool) (e : ℤ) → collapsed (root (fin s zero e)) ≡ degenerate (fin s zero e)
 unfolding collapsed root
 of-zero s e = rw (zero-low s e, zero-equal s e)
 
@@ -112,13 +112,16 @@ of-root (fin false zero e) p f = of-zero false e
 of-root (fin false (suc m) e) p f = let r = root-large f (ordinary m e) in rw (refuted (eq (fin false (suc m) e) zero⁺) (nonzero-differs false m e)) (above (root (fin false (suc m) e)) (r .0) (r .1))
 
 -- whichever zero the sum starts from
+pub squares-unsigned : (s : Bool) (x : Float) (w : List Float) → let q = squared-length (fin s zero (pos 0)) (x ∷ w) in T (unsigned q) × T (fits binary64 q)
+unfolding dot-from
+squares-unsigned s x w =
+    let y = mul binary64 x x in
+    sum-unsigned (add binary64 (fin s zero (pos 0)) y) w (zero-unsigned s y (square-unsigned x)) (add-fits binary64 (fin s zero (pos 0)) y)
+
 from-zero : (s : Bool) (w : List Float) → let q = squared-length (fin s zero (pos 0)) w in collapsed (root q) ≡ degenerate q
 unfolding dot-from
 from-zero s [] = of-zero s (pos 0)
-from-zero s (x ∷ w) =
-    let y = mul binary64 x x in
-    let h = sum-unsigned (add binary64 (fin s zero (pos 0)) y) w (zero-unsigned s y (square-unsigned x)) (add-fits binary64 (fin s zero (pos 0)) y) in
-    of-root (squared-length (fin s zero (pos 0)) (x ∷ w)) (h .0) (h .1)
+from-zero s (x ∷ w) = let h = squares-unsigned s x w in of-root (squared-length (fin s zero (pos 0)) (x ∷ w)) (h .0) (h .1)
 
 pub collapse-is : CollapseMeaning
 collapse-is w = from-zero _ w

@@ -10,7 +10,7 @@ use lib.Ieee.{Float, lt}
 use Rattle.error.specs.Refusal.{refuse, reported}
 use Rattle.error.specs.declared.Refusal.{Refusal}
 use Rattle.error.specs.declared.Outcome.{Outcome}
-use Rattle.floats.specs.Arithmetic.{_⊘_, zero⁺, faint-limit}
+use Rattle.floats.specs.Arithmetic.{_⊘_, zero⁻, faint-limit}
 use Rattle.floats.specs.Vector.{dot-from, part, chunks, concat}
 use Rattle.sqrt.specs.SquareRoot.{root}
 use Rattle.ln.specs.Logarithm.{log}
@@ -24,20 +24,24 @@ use Rattle.gram_schmidt.specs.declared.Normalised.the-variants.{By, Coll
 abbrev pub squared-length : Float → List Float → Float
 squared-length z w = dot-from z w w
 
--- the zero that the code's sums start from
-abbrev pub sum-start : Float
-sum-start = zero⁺
-
--- What the code has: lengths by the root of the squared length. A direction is faint where its squared length is below 2 ^ -960.
-abbrev pub euclidean : Lengths
-euclidean =
+-- Lengths by the root of the squared length, with every sum from z. A direction is faint where its squared length is below 2 ^ -960.
+abbrev pub euclidean-from : Float → Lengths
+euclidean-from z =
     record {
-      start = sum-start;
-      norm = λ w. root (squared-length sum-start w);
-      report = squared-length sum-start;
+      start = z;
+      norm = λ w. root (squared-length z w);
+      report = squared-length z;
       log = log;
       faint = λ q. lt q faint-limit;
     }
+
+-- the zero that the code's sums start from: document 02, d)
+abbrev pub sum-start : Float
+sum-start = zero⁻
+
+-- what the code has
+abbrev pub euclidean : Lengths
+euclidean = euclidean-from sum-start
 
 -- ---- one direction
 

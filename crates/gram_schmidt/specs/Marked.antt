@@ -1,15 +1,15 @@
--- Document 01's marked examples of the orthonormaliser, of the definition that its contract cites: directions of 2 entries, in a second slice of zeros; and two directions of 3 entries.
+-- Document 01's marked examples of the orthonormaliser, of the definition that its contract cites: directions of 2 entries, in a second slice of zeros; two directions of 3 entries; and two of which one zero turns by document 02, d).
 use mathlib.Core.Path.{_≡_, refl}
-use mathlib.Core.Bool.{false}
+use mathlib.Core.Bool.{true, false}
 use mathlib.Core.List.{List, [], _∷_}
 use mathlib.Core.Option.{none, some}
-use lib.IntN.{pos}
+use lib.IntN.{pos, negsuc}
 use lib.Ieee.{Float, fin, toBits, add, sub, mul, div, round, le, lt, eq, ofInt, ofBits}
 use Rattle.error.specs.Refusal.{refuse}
-use Rattle.floats.specs.Arithmetic.{bits, whole, zero⁺, one, two}
+use Rattle.floats.specs.Arithmetic.{bits, whole, zero⁺, zero⁻, one, two, half}
 use Rattle.sqrt.specs.SquareRoot.{root}
 use Rattle.ln.specs.Logarithm.{log}
-use Rattle.gram_schmidt.specs.GramSchmidt.{euclidean, Orthonormalised, orthonormalised}
+use Rattle.gram_schmidt.specs.GramSchmidt.{euclidean-from, sum-start, euclidean, Orthonormalised, orthonormalised}
 
 abbrev three : Float
 three = fin false 3 (pos 0)
@@ -43,3 +43,17 @@ pub two-of-three : orthonormalised euclidean (whole 2 ∷ whole 3 ∷ whole 6 �
     }
 unfolding orthonormalised root log toBits add sub mul div round le lt eq ofInt ofBits
 two-of-three = refl
+
+-- With u = 2 ^ -1074, (1/4, -4u, 3),(-3u, 1/2, -0.0) by sums from z. Once the first direction is divided, each product of their entries is -0.0: two are so small, and the third is of a zero.
+abbrev small-products : Float → Orthonormalised
+small-products z =
+    orthonormalised (euclidean-from z) (fin false 1 (negsuc 1) ∷ fin true 1 (negsuc 1071) ∷ three ∷ fin true 3 (negsuc 1073) ∷ half ∷ zero⁻ ∷ []) 3 zeros
+
+-- the directions, with x as the last entry
+abbrev ending-with : Float → List Float
+ending-with x = bits 0x3fb5_4277_f40d_6cb6 ∷ bits 0x8000_0000_0000_0001 ∷ bits 0x3fef_e3b3_ee14_2310 ∷ bits 0x8000_0000_0000_0006 ∷ one ∷ x ∷ []
+
+-- From -0.0 the dot product is -0.0, and the last entry turns. From +0.0 it was +0.0, and the entry stayed.
+pub turned : (small-products sum-start .tangents ≡ ending-with zero⁺) × (small-products zero⁺ .tangents ≡ ending-with zero⁻)
+unfolding orthonormalised root log toBits add sub mul div round le lt eq ofInt ofBits
+turned = (refl, refl)

@@ -17,8 +17,8 @@ ghost use Rattle.gram_schmidt.specs.GramSchmidt.{squared-length, euclide
 use error::LyapunovError;
 use error::Outcome;
 
-// The zero that every sum starts from.
-const SUM_START: f64 = 0.0;
+// The zero that every sum starts from (document 02, d).
+const SUM_START: f64 = -0.0;
 
 // What becomes of a cleared direction: its logarithm and its squared length, or nothing.
 enum Normalised {

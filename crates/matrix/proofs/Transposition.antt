@@ -8,11 +8,11 @@ use borrow.Author.Count.{below-more}
 use lib.ListN.{length, take, drop, getD, set, replicate, getD-replicate}
 use lib.Seq.{getD-set-same, getD-set-other}
 use lib.Ieee.{Float, nan}
-use Rattle.floats.specs.Arithmetic.{_⊕_, _⊗_, zero⁺}
+use Rattle.floats.specs.Arithmetic.{_⊕_, _⊗_}
 use Rattle.floats.specs.Vector.{dot-from, part, chunks}
 use Rattle.floats.proofs.Vector.{vector-fits}
 use Rattle.floats.proofs.Parts.{lent-length, part-at}
-use Rattle.matrix.specs.Matrix.{times, Transposed}
+use Rattle.matrix.specs.Matrix.{row-start, times, Transposed}
 use Rattle.matrix.proofs.Times.{row-next, row-end, times-front, times-few}
 
 -- ---- the places
@@ -80,10 +80,10 @@ module _ (w d : ℕ) (columns x : List Float) where
   abbrev pub Summed : ℕ → List Float → Type 0
   Summed j sums =
       (m : List Float) → length m ≡ d * d → Transposed w d m columns → (i : ℕ) → i < d
-      → dot-from zero⁺ (part (i * d) d m) x ≡ dot-from (getD sums i nan) (drop j (part (i * d) d m)) (drop j x)
+      → dot-from row-start (part (i * d) d m) x ≡ dot-from (getD sums i nan) (drop j (part (i * d) d m)) (drop j x)
 
-  pub summed-none : (n : ℕ) → d ≤ n → Summed 0 (replicate n zero⁺)
-  summed-none n h m e t i g = rw (getD-replicate n i zero⁺ nan (omega arith))
+  pub summed-none : (n : ℕ) → d ≤ n → Summed 0 (replicate n row-start)
+  summed-none n h m e t i g = rw (getD-replicate n i row-start nan (omega arith))
 
   module _ (j : ℕ) (sums : List Float) (e : Summed j sums) where
     pub summed-next : (next : List Float) → d ≤ w → d ≤ length x → j < d

@@ -7,10 +7,14 @@ use lib.Ieee.{Float, nan}
 use Rattle.floats.specs.Arithmetic.{zero⁺}
 use Rattle.floats.specs.Vector.{dot-from}
 
--- the product of a matrix, given by its rows, and a vector: each sum starts at +0.0
+-- the zero that a row's sum starts from
+abbrev pub row-start : Float
+row-start = zero⁺
+
+-- the product of a matrix, given by its rows, and a vector
 unfoldable pub times : List (List Float) → List Float → List Float
 unfolding dot-from
-times rows v = map (λ r. dot-from zero⁺ r v) rows
+times rows v = map (λ r. dot-from row-start r v) rows
 
 -- the d rows of m, column after column, each column at the front of w entries
 abbrev pub Transposed : ℕ → ℕ → List Float → List Float → Type 0

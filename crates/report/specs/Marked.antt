@@ -1,7 +1,7 @@
--- Document 01's example of the program, a text of each refusal, and numbers from bytes and in digits, computed from the definitions.
+-- Document 01's example of the program, a text of each refusal, one without a rate above 0, and numbers from bytes and in digits, computed from the definitions.
 use mathlib.Core.Path.{_≡_, refl}
 use mathlib.Core.Bool.{false}
-use mathlib.Core.List.{List, [], _∷_}
+use mathlib.Core.List.{List, [], _∷_, _++_}
 use Prim.Native.Nat.{ℕ}
 use lib.ListN.{replicate}
 use lib.IntN.{negsuc}
@@ -23,6 +23,11 @@ pub marked : (output (0 ∷ 0 ∷ 0 ∷ 0 ∷ 0 ∷ 0 ∷ 0xf0 ∷ 0x3f ∷ 0 �
     × (output (0 ∷ []) ≡ refused-twenty 51)
 unfolding output
 marked = (refl, refl, refl, refl, refl)
+
+-- the bytes of -1, -2: sixteen `0`, then `8` and fifteen `0`
+pub no-positive : output (0 ∷ 0 ∷ 0 ∷ 0 ∷ 0 ∷ 0 ∷ 0xf0 ∷ 0xbf ∷ 0 ∷ 0 ∷ 0 ∷ 0 ∷ 0 ∷ 0 ∷ 0 ∷ 0xc0 ∷ []) ≡ replicate 16 48 ++ (10 ∷ 56 ∷ replicate 15 48 ++ (10 ∷ []))
+unfolding output
+no-positive = refl
 
 -- 3 + 256 * 1 + 65536 * 2; 4095 and f2a7 in digits; the float 2.5, then one more byte
 pub numerals : (little-endian (3 ∷ 1 ∷ 2 ∷ []) ≡ 131331) × (decimal 4095 ≡ 52 ∷ 48 ∷ 57 ∷ 53 ∷ []) × (digits 16 4 0xf2a7 ≡ 102 ∷ 50 ∷ 97 ∷ 55 ∷ [])

@@ -2,9 +2,26 @@
 //
 // The input is 256 finite floats, a NaN, and three floats whose sum overflows. The parts are no bytes, answers, each
 // refusal, and exactly 2,048 and 2,049 bytes.
-const CASES: usize = 15;
+const CASES: usize = 16;
 
-const STARTS: [usize; CASES] = [0, 0, 0, 0, 0, 0, 0, 8, 1976, 1968, 2048, 2056, 24, 48, 56];
+const STARTS: [usize; CASES] = [
+    0,
+    0,
+    0,
+    0,
+    0,
+    0,
+    0,
+    8,
+    1976,
+    1968,
+    2048,
+    2056,
+    24,
+    48,
+    16,
+    56,
+];
 
 const ENDS: [usize; CASES] = [
     0,
@@ -21,6 +38,7 @@ const ENDS: [usize; CASES] = [
     2080,
     48,
     56,
+    32,
     72,
 ];
 

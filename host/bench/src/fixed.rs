@@ -117,7 +117,7 @@ fn step(state: &mut Vector, basis: &mut [Vector; 3]) {
 }
 
 fn dot(left: Vector, right: Vector) -> f64 {
-    0.0 + left[0] * right[0] + left[1] * right[1] + left[2] * right[2]
+    -0.0 + left[0] * right[0] + left[1] * right[1] + left[2] * right[2]
 }
 
 fn orthonormalise(basis: &mut [Vector; 3]) -> Vector {

@@ -21,14 +21,17 @@ pub fn kaplan_yorke_dimension(exponents: &[f64]) -> Result<f64> {
 }
 
 /// The sum of the exponents above 0, of 1 to 256 finite ones: the spectrum's side of Pesin's
-/// identity, in nats a unit of time.
+/// identity, in nats a unit of time. Where none is above 0 it is −0.0, as the library's own sum of
+/// nothing.
 ///
 /// ```
 /// use field_lyapunov::{kolmogorov_sinai_entropy, LyapunovError};
 ///
 /// assert_eq!(kolmogorov_sinai_entropy(&[-1.0, 0.5, 0.25]), Ok(0.75));
+/// assert!(kolmogorov_sinai_entropy(&[-1.0, -2.0])?.is_sign_negative());
 /// let refused = kolmogorov_sinai_entropy(&[0.0, f64::NAN]);
 /// assert_eq!(refused, Err(LyapunovError::NonFiniteExponent(1)));
+/// # Ok::<(), LyapunovError>(())
 /// ```
 pub fn kolmogorov_sinai_entropy(exponents: &[f64]) -> Result<f64> {
     let mut out = 0.0;

@@ -3,9 +3,22 @@
 use crate::{logarithm, square_root};
 use input::Refusal;
 
+/// Where every sum begins: document 02, d).
+pub const SUM_START: f64 = -0.0;
+
 /// Orthonormalises the directions of length `d` that lie one after the other; writes their
 /// logarithms and then their squared lengths into `norms`.
 pub fn orthonormalise(directions: &mut [f64], d: usize, norms: &mut [f64]) -> Result<(), Refusal> {
+    orthonormalise_from(SUM_START, directions, d, norms)
+}
+
+/// The same with every sum from `start`, which tells what that zero decides.
+pub fn orthonormalise_from(
+    start: f64,
+    directions: &mut [f64],
+    d: usize,
+    norms: &mut [f64],
+) -> Result<(), Refusal> {
     if d == 0 {
         return Err(Refusal::of(7));
     }
@@ -16,9 +29,9 @@ pub fn orthonormalise(directions: &mut [f64], d: usize, norms: &mut [f64]) -> Re
     for v in 0..count {
         let (earlier, rest) = directions.split_at_mut(v * d);
         let direction = &mut rest[..d];
-        clear(direction, earlier);
-        clear(direction, earlier);
-        let Some((log, squared)) = normalise(direction) else {
+        clear(start, direction, earlier);
+        clear(start, direction, earlier);
+        let Some((log, squared)) = normalise(start, direction) else {
             return Err(Refusal::at(14, v as u64));
         };
         norms[v] = log;
@@ -28,9 +41,9 @@ pub fn orthonormalise(directions: &mut [f64], d: usize, norms: &mut [f64]) -> Re
 }
 
 /// Clears a direction once of each earlier one.
-fn clear(direction: &mut [f64], earlier: &[f64]) {
+fn clear(start: f64, direction: &mut [f64], earlier: &[f64]) {
     for basis in earlier.chunks(direction.len()) {
-        let projection = dot(basis, direction);
+        let projection = dot(start, basis, direction);
         for (x, b) in direction.iter_mut().zip(basis) {
             *x -= projection * b;
         }
@@ -39,8 +52,8 @@ fn clear(direction: &mut [f64], earlier: &[f64]) {
 
 /// Divides a direction by its length; answers the logarithm and the squared length, or `None`
 /// where it collapses.
-fn normalise(direction: &mut [f64]) -> Option<(f64, f64)> {
-    let squared = dot(direction, direction);
+fn normalise(start: f64, direction: &mut [f64]) -> Option<(f64, f64)> {
+    let squared = dot(start, direction, direction);
     let length = square_root(squared);
     if !length.is_finite() || length <= f64::MIN_POSITIVE {
         return None;
@@ -52,8 +65,8 @@ fn normalise(direction: &mut [f64]) -> Option<(f64, f64)> {
     Some((log, squared))
 }
 
-fn dot(left: &[f64], right: &[f64]) -> f64 {
-    let mut sum = 0.0;
+fn dot(start: f64, left: &[f64], right: &[f64]) -> f64 {
+    let mut sum = start;
     for (a, b) in left.iter().zip(right) {
         sum += a * b;
     }
@@ -84,6 +97,21 @@ mod tests {
         assert_eq!(answer, Err(Refusal::at(14, 1)));
         assert_eq!(directions, [1.0, 0.0, 0.0, 0.0]);
         assert_eq!(norms, [0.0, UNTOUCHED, 1.0, UNTOUCHED]);
+    }
+
+    /// The products are −0.0 both, and so is their sum from −0.0: subtracted from −0.0 it leaves +0.0.
+    #[test]
+    fn a_cleared_zero_turns() {
+        let directions = [1.0, 0.0, -0.0, -1.0];
+        for (start, cleared) in [(-0.0, 0.0_f64), (0.0, -0.0)] {
+            let mut left = directions;
+            let answer = orthonormalise_from(start, &mut left, 2, &mut [0.0; 4]);
+            assert_eq!(answer, Ok(()));
+            assert_eq!(left[2].to_bits(), cleared.to_bits());
+        }
+        let mut left = directions;
+        assert_eq!(orthonormalise(&mut left, 2, &mut [0.0; 4]), Ok(()));
+        assert_eq!(left[2].to_bits(), 0);
     }
 
     #[test]

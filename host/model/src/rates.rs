@@ -64,9 +64,10 @@ pub fn kaplan_yorke_dimension(rates: &[f64]) -> Result<f64, Refusal> {
     Ok(rates.len() as f64)
 }
 
+/// The sum of the rates above 0, from −0.0 in the order given: document 02, d).
 pub fn entropy(rates: &[f64]) -> Result<f64, Refusal> {
     tests(rates)?;
-    let mut sum = 0.0;
+    let mut sum = -0.0;
     for rate in rates {
         if *rate > 0.0 {
             sum += rate;
@@ -120,6 +121,15 @@ mod tests {
     #[test]
     fn marked_entropy() {
         assert_eq!(entropy(&[-1.0, 0.5, 0.25]), Ok(0.75));
+    }
+
+    #[test]
+    fn without_a_positive_rate_the_entropy_is_negative_zero() {
+        for rates in [&[-1.0][..], &[-1.0, -2.0], &[0.0], &[0.0, -0.0]] {
+            assert_eq!(entropy(rates).map(f64::to_bits), Ok((-0.0_f64).to_bits()));
+        }
+        let printed = spectrum_program(&bytes(&[-1.0, -2.0]));
+        assert_eq!(printed, "0000000000000000\n8000000000000000\n");
     }
 
     #[test]

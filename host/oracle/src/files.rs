@@ -13,23 +13,47 @@ mod system {
 mod diagnostics {
     include!(concat!(env!("OUT_DIR"), "/diagnostics.rs"));
 }
+
+macro_rules! estimator {
+    ($file:literal) => {
+        include!(concat!(env!("OUT_DIR"), $file));
+
+        pub fn probe_modified_gram_schmidt(
+            tangents: &mut [f64],
+            dimension: usize,
+        ) -> Result<Vec<f64>> {
+            modified_gram_schmidt(tangents, dimension)
+        }
+
+        /// The state after one turn from `state`, with the output of that turn.
+        pub fn probe_next_u64(state: u64) -> (u64, u64) {
+            let mut generator = SplitMix64::new(state);
+            let output = generator.next_u64();
+            (generator.state, output)
+        }
+
+        pub fn probe_symmetric_unit(state: u64) -> f64 {
+            SplitMix64::new(state).symmetric_unit()
+        }
+    };
+}
+
 mod estimator {
-    include!(concat!(env!("OUT_DIR"), "/estimator.rs"));
+    estimator!("/estimator.rs");
+}
 
-    pub fn probe_modified_gram_schmidt(tangents: &mut [f64], dimension: usize) -> Result<Vec<f64>> {
-        modified_gram_schmidt(tangents, dimension)
+/// The two files that have sums, with the library's own in place of the folds.
+#[cfg(test)]
+pub mod own_sums {
+    mod diagnostics {
+        include!(concat!(env!("OUT_DIR"), "/own_sums/diagnostics.rs"));
+    }
+    mod estimator {
+        estimator!("/own_sums/estimator.rs");
     }
 
-    /// The state after one turn from `state`, with the output of that turn.
-    pub fn probe_next_u64(state: u64) -> (u64, u64) {
-        let mut generator = SplitMix64::new(state);
-        let output = generator.next_u64();
-        (generator.state, output)
-    }
-
-    pub fn probe_symmetric_unit(state: u64) -> f64 {
-        SplitMix64::new(state).symmetric_unit()
-    }
+    pub use diagnostics::kolmogorov_sinai_entropy;
+    pub use estimator::probe_modified_gram_schmidt;
 }
 
 pub use diagnostics::{kaplan_yorke_dimension, kolmogorov_sinai_entropy};

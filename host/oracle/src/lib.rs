@@ -1,7 +1,7 @@
 //! The Rust source behind an interface in document 01's numbers.
 //!
-//! `build.rs` makes document 01's two substitutions and nothing else. Where the source is not at
-//! hand, `source` answers `None` and the crate holds nothing of it.
+//! `build.rs` makes two substitutions, the logarithm of document 01 and sums from −0.0, and nothing
+//! else. Where the source is not at hand, `source` answers `None` and the crate holds nothing of it.
 
 pub mod logarithm;
 
@@ -9,6 +9,8 @@ pub mod logarithm;
 mod files;
 #[cfg(source_available)]
 mod present;
+#[cfg(all(test, source_available))]
+mod sums;
 #[cfg(source_available)]
 mod systems;
 

@@ -265,14 +265,6 @@ mod tests {
     }
 
     #[test]
-    fn sums_fold_from_positive_zero() {
-        let End::Done(entropy) = Present.kolmogorov_sinai_entropy(&[-1.0]) else {
-            panic!("a finite rate has an entropy");
-        };
-        assert_eq!(entropy.to_bits(), 0);
-    }
-
-    #[test]
     fn progress_of_a_refused_run() {
         // Time passes the largest float in the sixth step, the second of the third window.
         let run = run(&linear(1, &[0.0]), true, &[1.0], 3.2e307);

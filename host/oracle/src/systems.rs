@@ -93,7 +93,7 @@ impl ContinuousSystem for Evaluated {
     }
 }
 
-/// Each entry is a row of the matrix times the vector, summed from 0.0 in index order.
+/// Each entry is a row of the matrix times the vector, summed from +0.0 in index order.
 fn multiply(matrix: &[f64], vector: &[f64], output: &mut [f64]) {
     for (row, entry) in matrix.chunks_exact(vector.len()).zip(output) {
         *entry = row.iter().zip(vector).fold(0.0, |sum, (a, x)| sum + a * x);

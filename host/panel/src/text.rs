@@ -87,9 +87,11 @@ pub fn decimal(x: f64, digits: usize) -> String {
     }
 }
 
+/// A dimension or an entropy. The entropy of a spectrum without a positive rate is −0.0, which a
+/// person reads as 0: the sum with +0.0 has no sign.
 fn number(answer: field_lyapunov::Result<f64>) -> String {
     match answer {
-        Ok(x) => decimal(x, 6),
+        Ok(x) => decimal(x + 0.0, 6),
         Err(error) => format!("none: {}", refused(&error)),
     }
 }

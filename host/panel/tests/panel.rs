@@ -127,6 +127,16 @@ fn the_text_has_rates_dimension_entropy_and_faint_counts() {
 }
 
 #[test]
+fn a_spectrum_without_a_positive_rate_has_no_entropy() {
+    let words = ["--system=linear", "--matrix=-1,0,0,-2", "--windows=10"];
+    let text = stdout(&panel(&words));
+    assert!(text.contains("entropy   0.000000\n"), "{text}");
+    let json = stdout(&panel(&[&words[..], &["--json"]].concat()));
+    let exact = "\"kolmogorov_sinai_entropy\":-0.0,";
+    assert!(json.contains(exact), "{json}");
+}
+
+#[test]
 fn faint_windows_are_warned_of() {
     let matrix = "-0.2,1,0,0,-1,-0.2,0,0,0,0,-7.5,1,0,0,0,-8.5";
     let long = ["--system=linear", "--matrix", matrix, "--state=1,0,0,0"];

@@ -7,7 +7,7 @@ use mathlib.Core.Bool.{true, false}
 use Prim.Native.Nat.{_+_, _-_, _≤_}
 use denote.Ref.{now}
 use lib.ListN.{length, drop, getD}
-use lib.Ieee.{Float, nan, binary64, ofBits, lt}
+use lib.Ieee.{Float, nan, ofBits, neg, lt}
 use Rattle.floats.proofs.Zero.{zero-is}
 use Rattle.diagnostics.specs.Entropy.{entropy-start, sum-positive, kolmogorov-sinai}
 use Rattle.diagnostics.proofs.Loops.{sum-next, sum-end}
@@ -20,13 +20,9 @@ Inv-loop xs sum₀ i₀ sum i = (i ≤ length xs) × (sum-positive entropy-start
 abbrev μ-loop : tie.MeasureT-loop
 μ-loop xs sum₀ i₀ sum i = length xs - i
 
--- where the code starts the sum
-start-is : ofBits binary64 0 ≡ entropy-start
-unfolding ofBits
-start-is = refl
-
 loop-holds : tie.Need-loop-holds Inv-loop μ-loop
-loop-holds c = (search needs, ap (λ (z : Float). sum-positive z (now (c .args .xs))) (sym start-is))
+unfolding ofBits neg
+loop-holds c = (search needs, refl)
 
 mul-x : tie.Need-mul-x Inv-loop μ-loop
 mul-x c = search needs

@@ -9,10 +9,10 @@ use Rattle.spectrum_cases.proofs.main.Statement.{statement}
 use Rattle.spectrum_cases.proofs.main.Tie as tie
 
 abbrev Inv-loop : tie.InvT-loop
-Inv-loop input n i₀ i = i ≤ 15
+Inv-loop input n i₀ i = i ≤ 16
 
 abbrev μ-loop : tie.MeasureT-loop
-μ-loop input n i₀ i = 15 - i
+μ-loop input n i₀ i = 16 - i
 
 inside : (c : tie.After-report Inv-loop μ-loop) → c .report .result .len ≤ length (c .report .result .bytes)
 inside c =

@@ -11,7 +11,7 @@ mod store;
 mod validate;
 
 pub use leaves::{turn_of_library, Draw, Log, Root};
-pub use orth::Orth;
+pub use orth::{Orth, Turned};
 pub use program::Program;
 pub use rates::Rates;
 pub use run::{Outcome, Run};

@@ -3,7 +3,7 @@
 use super::{Called, Case};
 use crate::lent::Lent;
 use crate::line::Fields;
-use crate::values::{bits, list, Answer, Value, FILLING};
+use crate::values::{bits, list, same, Answer, Value, FILLING};
 use input::Refusal;
 use oracle::{End, Source};
 
@@ -13,6 +13,35 @@ pub struct Orth {
     pub directions: Vec<f64>,
     /// The length of the second slice.
     pub numbers: usize,
+}
+
+/// An entry that has other bits than by sums from +0.0, as they were before document 02's request d.
+#[derive(Clone, Copy, Debug, PartialEq, Eq)]
+pub struct Turned {
+    pub entry: usize,
+    pub from: u64,
+    pub to: u64,
+}
+
+impl Orth {
+    /// What is refused, and the directions and numbers that are left, with every sum from `start`.
+    fn model_from(&self, start: f64) -> (Refusal, Vec<f64>, Vec<f64>) {
+        let (mut directions, mut numbers) = (self.directions.clone(), vec![FILLING; self.numbers]);
+        let d = self.dimension;
+        let answer = model::orthonormalise_from(start, &mut directions, d, &mut numbers);
+        (answer.err().unwrap_or(Refusal::NONE), directions, numbers)
+    }
+
+    /// The entries that the start of the sums decides.
+    pub fn turned(&self) -> Vec<Turned> {
+        let left = [0.0, model::SUM_START].map(|start| self.model_from(start).1);
+        let other = |entry: usize| {
+            let [from, to] = [0, 1].map(|by| left[by][entry]);
+            let (same, [from, to]) = (same(from, to), [from, to].map(f64::to_bits));
+            (!same).then_some(Turned { entry, from, to })
+        };
+        (0..self.directions.len()).filter_map(other).collect()
+    }
 }
 
 impl Case for Orth {
@@ -34,10 +63,7 @@ impl Case for Orth {
     }
 
     fn model(&self) -> Answer {
-        let mut directions = self.directions.clone();
-        let mut numbers = vec![FILLING; self.numbers];
-        let answer = model::orthonormalise(&mut directions, self.dimension, &mut numbers);
-        let refusal = answer.err().unwrap_or(Refusal::NONE);
+        let (refusal, directions, numbers) = self.model_from(model::SUM_START);
         answered(refusal, directions, Value::Floats(numbers))
     }
 

@@ -2,7 +2,7 @@
 
 use super::many::{run_label, step_label, unlabelled};
 use crate::cases::{
-    Build, Case, Draw, Log, Orth, Program, Rates, Reference, Root, Run, Step, Validate,
+    Build, Case, Draw, Log, Orth, Program, Rates, Reference, Root, Run, Step, Turned, Validate,
 };
 use crate::circuit::{Systems, RING};
 use crate::generate::{self, counts, edges, kept, patterns, seeds};
@@ -17,10 +17,10 @@ const HEADER: &str = "\
 # base, and random inputs.
 # Written in host/ by: cargo run --release -p compare -- write-list FILE
 # The answers are those of the Rust source, MonumentalSystems/commutator-rs at bff4212c1d, built
-# with document 01's two substitutions (every float sum folds from 0.0, the logarithm is document
-# 01's), and of host/model, an independent reading of document 01. by=oracle: both have the
-# behaviour and agree. by=model: the source has none (5, 8, 9, 13, 21, 23, 24, the bound of 16 in
-# 19). Faint counts, and the squared lengths of orth, are the model's.
+# with two substitutions (every float sum folds from -0.0, as document 02's request d says, and the
+# logarithm is document 01's), and of host/model, an independent reading of the documents. by=oracle:
+# both have the behaviour and agree. by=model: the source has none (5, 8, 9, 13, 21, 23, 24, the bound
+# of 16 in 19). Faint counts, and the squared lengths of orth, are the model's.
 # A case is one line: KIND id=ID name=value ... -> name=value ... # remark. Left of the arrow
 # stands what is handed in, right of it what comes back. A float is the 16 hexadecimal digits of
 # its bits, and so are seeds, states and outputs of the generator; counts are decimal. Lists are
@@ -51,6 +51,12 @@ const KEPT: &str = "\
 # by=oracle: the source made all windows in one run. by=model: it has no 26 and no 27 either.
 ";
 
+/// What stands before the cases of request d.
+const SUMS: &str = "\
+# Sums from -0.0: document 02's request d. Directions with a cleared zero that has another sign than by
+# sums from +0.0, which the remark tells, and spectra without a rate above 0.
+";
+
 /// Lines longer than this are not taken from the random inputs.
 const LONGEST: usize = 1200;
 
@@ -70,6 +76,7 @@ pub fn write_list() -> Result<String, String> {
     list.rings()?;
     list.counts()?;
     list.kept()?;
+    list.sums()?;
     println!("{} cases, {} bytes", list.cases, list.text.len());
     Ok(list.text)
 }
@@ -191,8 +198,11 @@ impl List {
         for orth in edges::marked_directions() {
             self.add(&orth, "marked")?;
         }
-        self.add(&edges::sum_of_negative_zeros(), "sums start at +0.0")?;
-        self.add(&edges::row_of_negative_zeros(), "sums start at +0.0")?;
+        self.add(&edges::sum_of_negative_zeros(), "sums start at -0.0")?;
+        self.add(
+            &edges::row_of_negative_zeros(),
+            "a row's sum starts at +0.0",
+        )?;
         self.add(&edges::rossler_at_zero(), "-y-z is (-y)-z")?;
         let orth = |_, random: &mut Random| generate::orth::orth(random);
         self.add_random::<Orth>(20, 400, orth, unlabelled)?;
@@ -222,9 +232,7 @@ impl List {
         self.add_random::<Build>(4, 400, settings, unlabelled)?;
         let marked: [&[f64]; 4] = [&[1.0, 0.0, -2.0], &[1.0, 2.0], &[-1.0], &[-1.0, 0.5, 0.25]];
         for rates in marked {
-            self.add(&Rates(rates.to_vec()), "marked")?;
-            let bytes = rates.iter().flat_map(|x| x.to_le_bytes());
-            self.add(&Program(bytes.collect()), "marked rates")?;
+            self.add_rates(rates, ["marked", "marked rates"])?;
         }
         self.add(&Rates(vec![]), "no rates")?;
         self.add(&Rates(vec![0.0; 256]), "as many rates as may be")?;
@@ -289,6 +297,34 @@ impl List {
             }
         }
         Ok(())
+    }
+
+    fn sums(&mut self) -> Result<(), String> {
+        self.text.push_str(SUMS);
+        for orth in edges::turned_zeros() {
+            for Turned { entry, from, .. } in orth.turned() {
+                let remark = format!("entry {entry} was {from:016x} by sums from +0.0");
+                self.add(&orth, &remark)?;
+            }
+        }
+        let without_positive: [&[f64]; 5] = [
+            &[-1.0],
+            &[-1.0, -2.0],
+            &[0.0],
+            &[-0.0],
+            &[-3.5, 0.0, -0.25, -0.0],
+        ];
+        for rates in without_positive {
+            self.add_rates(rates, ["no rate above 0"; 2])?;
+        }
+        Ok(())
+    }
+
+    /// Adds rates, and the program with their bytes, each with its remark.
+    fn add_rates(&mut self, rates: &[f64], remarks: [&str; 2]) -> Result<(), String> {
+        self.add(&Rates(rates.to_vec()), remarks[0])?;
+        let bytes = rates.iter().flat_map(|x| x.to_le_bytes());
+        self.add(&Program(bytes.collect()), remarks[1])
     }
 
     /// Calls of one store.

@@ -24,15 +24,20 @@ pub fn step(inputs: Inputs) -> bool {
 }
 
 pub fn orthonormalise(inputs: Inputs) -> bool {
-    let expected = [0, 7, 13, 14].map(|number| (number, ""));
-    let generate = |_, random: &mut Random| generate::orth::orth(random);
-    compare::<Orth>("orthonormalise", inputs, generate, unlabelled, &expected)
+    let mut expected = [0, 7, 13, 14].map(|number| (number, "")).to_vec();
+    expected.extend([(0, BY_START), (14, BY_START)]);
+    let generate = |index, random: &mut Random| match index % 4 {
+        0 => generate::orth::of_zeros(random),
+        _ => generate::orth::orth(random),
+    };
+    compare::<Orth>("orthonormalise", inputs, generate, orth_label, &expected)
 }
 
 pub fn rates(inputs: Inputs) -> bool {
-    let expected = [0, 20, 21, 22].map(|number| (number, ""));
+    let mut expected = [0, 20, 21, 22].map(|number| (number, "")).to_vec();
+    expected.push((0, NONE_POSITIVE));
     let generate = |_, random: &mut Random| generate::rates::rates(random);
-    compare::<Rates>("rates", inputs, generate, unlabelled, &expected)
+    compare::<Rates>("rates", inputs, generate, rates_label, &expected)
 }
 
 pub fn settings(inputs: Inputs) -> bool {
@@ -123,6 +128,8 @@ fn by_5<'a>(labels: &'a [&'static str]) -> impl Iterator<Item = (u64, &'static s
     labels.iter().map(|label| (5, *label))
 }
 
+const BY_START: &str = ", by the zero that sums begin at";
+const NONE_POSITIVE: &str = ", no rate above 0";
 const FAINT: &str = ", a faint direction";
 const INFINITE_RATE: &str = ", an infinite rate";
 const INFINITE_TIME: &str = ", infinite measured time";
@@ -133,6 +140,17 @@ const AFTER_ROWS: &str = " after a row";
 
 pub fn unlabelled<C>(_: &C, _: &Answer) -> String {
     String::new()
+}
+
+/// Whether the start of the sums decides an entry.
+fn orth_label(orth: &Orth, _: &Answer) -> String {
+    let turned = orth.turned();
+    if turned.is_empty() { "" } else { BY_START }.to_string()
+}
+
+fn rates_label(rates: &Rates, answer: &Answer) -> String {
+    let none = answer.number() == 0 && !rates.0.iter().any(|rate| *rate > 0.0);
+    if none { NONE_POSITIVE } else { "" }.to_string()
 }
 
 /// Which counts are over, where 5 refuses.

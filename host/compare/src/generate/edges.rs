@@ -1,6 +1,7 @@
 //! Document 01's marked examples and edges.
 
 use super::circuits::{diagonal, linear, ring};
+use super::orth::of_zeros;
 use super::runs::HALVING;
 use super::seeds::seed_with_draw;
 use crate::cases::{Case, Orth, Run, Step};
@@ -36,8 +37,8 @@ pub fn marked_directions() -> [Orth; 2] {
     })
 }
 
-/// A sum of negative zeros is +0.0, since it starts there: the first direction entry keeps its
-/// sign.
+/// A sum of negative zeros is -0.0, since it starts there: subtracted from the -0.0 of the second
+/// direction it leaves +0.0.
 pub fn sum_of_negative_zeros() -> Orth {
     Orth {
         dimension: 2,
@@ -46,7 +47,7 @@ pub fn sum_of_negative_zeros() -> Orth {
     }
 }
 
-/// The same in a row of a matrix: the state -0.0 steps to +0.0.
+/// In a row of a matrix it is +0.0, since such a sum starts there: the state -0.0 steps to +0.0.
 pub fn row_of_negative_zeros() -> Step {
     Step {
         circuit: linear(1, vec![0.0]),
@@ -55,6 +56,28 @@ pub fn row_of_negative_zeros() -> Step {
         count: 1,
         ..marked_step()
     }
+}
+
+/// The directions of gram_schmidt/specs/Marked, whose products are all -0.0.
+fn small_products() -> Orth {
+    let [three, four] = [3, 4].map(f64::from_bits);
+    Orth {
+        dimension: 3,
+        directions: vec![0.25, -four, 3.0, -three, 0.5, -0.0],
+        numbers: 4,
+    }
+}
+
+/// Directions of which the start of the sums decides one entry: one with all numbers different, and
+/// the first that a search finds, accepted and collapsed.
+pub fn turned_zeros() -> Vec<Orth> {
+    let searched = |number: u64| {
+        let is_one = |orth: &Orth| orth.model().number() == number && orth.turned().len() == 1;
+        let mut tried = (0..10_000).map(|seed| of_zeros(&mut Random::seeded(seed)));
+        tried.find(is_one)
+    };
+    let found = [0, 14].into_iter().filter_map(searched);
+    [small_products()].into_iter().chain(found).collect()
 }
 
 pub fn rossler(a: f64, b: f64, c: f64) -> Circuit {
@@ -324,8 +347,8 @@ mod tests {
     use crate::values::Value;
 
     #[test]
-    fn sums_start_at_positive_zero() {
-        let directions = Value::Floats(vec![1.0, 0.0, -0.0, -1.0]);
+    fn where_sums_start() {
+        let directions = Value::Floats(vec![1.0, 0.0, 0.0, -1.0]);
         let answer = sum_of_negative_zeros().model();
         assert!(answer
             .get("dirs")
@@ -333,6 +356,18 @@ mod tests {
         let state = Value::Floats(vec![0.0]);
         let answer = row_of_negative_zeros().model();
         assert!(answer.get("state").is_some_and(|value| state.admits(value)));
+    }
+
+    #[test]
+    fn a_cleared_zero_turns() {
+        let turned = turned_zeros();
+        let numbers: Vec<u64> = turned.iter().map(|orth| orth.model().number()).collect();
+        assert_eq!(numbers, [0, 0, 14]);
+        for orth in &turned {
+            let signs: Vec<_> = orth.turned().iter().map(|at| (at.from, at.to)).collect();
+            assert_eq!(signs, [((-0.0_f64).to_bits(), 0)]);
+        }
+        assert_eq!(turned[0].turned()[0].entry, 5);
     }
 
     #[test]

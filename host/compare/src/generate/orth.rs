@@ -11,6 +11,21 @@ pub fn orth(random: &mut Random) -> Orth {
     }
 }
 
+/// Directions of zeros, ones and numbers so small that their products sink to zeros: a dot product is
+/// often a zero, and its sign decides that of a cleared one.
+pub fn of_zeros(random: &mut Random) -> Orth {
+    let (d, count) = (1 + random.size_below(5), 2 + random.size_below(3));
+    let directions = random.list(count * d, |random| match random.below(4) {
+        0 => random.sign() * f64::from_bits(1 + random.below(9)),
+        _ => random.zero_or_one(),
+    });
+    Orth {
+        dimension: d,
+        directions,
+        numbers: 2 * count,
+    }
+}
+
 /// Directions of one of several families, with leftover entries and a second slice that may be
 /// longer than needed.
 fn directions(random: &mut Random) -> Orth {

@@ -1,0 +1,2 @@
+-- What is stated of the start of sums.
+pub mod SumStart
