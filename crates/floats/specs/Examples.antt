@@ -4,8 +4,7 @@ use mathlib.Core.Bool.{true, false}
 use mathlib.Core.List.{[], _∷_}
 use mathlib.Core.Option.{none, some}
 use Prim.Native.Nat.{_-_, _^_}
-use lib.IntN.{pos}
-use lib.Ieee.{nan, inf, fin, add, sub, mul, neg, lt, ofInt, toBits}
+use lib.Ieee.{nan, inf, add, sub, mul, neg, lt, ofInt, toBits}
 use Rattle.floats.specs.Arithmetic.{_⊕_, _⊖_, _⊗_, whole, minus, zero⁺, zero⁻}
 use Rattle.floats.specs.Finite.{positive, first-not-finite}
 use Rattle.floats.specs.Magnitude.{magnitude}

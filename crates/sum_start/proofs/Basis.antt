@@ -1,5 +1,5 @@
 -- The orthonormaliser by sums from either zero: the same lengths, collapses and reports, and directions that differ in signs of zeros alone.
-use Prim.Native.Nat.{ℕ, zero, suc}
+use Prim.Native.Nat.{zero, suc}
 use native.Mathlib.Omega.{arith}
 use mathlib.Core.Path.{_≡_, refl, sym, ap, ap₂, _∙_}
 use mathlib.Core.Logic.{_⊎_, inl, inr}

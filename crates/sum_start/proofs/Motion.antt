@@ -2,7 +2,7 @@
 use Prim.Native.Nat.{ℕ, zero, suc, _+_, _-_, _%_}
 use mathlib.Core.Path.{_≡_, refl, sym, ap, ap₂, _∙_}
 use mathlib.Core.List.{List, [], _∷_, map}
-use lib.ListN.{drop, getD, List·getD-map}
+use lib.ListN.{drop, List·getD-map}
 use lib.Ieee.{Float, nan}
 use Rattle.floats.specs.Arithmetic.{_⊗_, half}
 use Rattle.floats.specs.Vector.{chunks}

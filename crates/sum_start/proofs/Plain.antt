@@ -4,9 +4,9 @@ use native.Mathlib.Nat.{zero-mul, mul-zero, mul-pos, zero-lt-suc, pow-suc}
 use native.Mathlib.Omega.{arith}
 use mathlib.Core.Path.{_≡_, refl, sym, ap, ap₂, _∙_}
 use mathlib.Core.Logic.{_⊎_, inl, inr}
-use mathlib.Core.Bool.{Bool, true, false, _&&_, cond}
+use mathlib.Core.Bool.{Bool, true, false, cond}
 use borrow.Author.Tests.{ltb-true, ltb-false, ne-eqb}
-use lib.Dec.{T, ltb, eqb, eqb→eq, lit<}
+use lib.Dec.{T, ltb, eqb→eq, lit<}
 use lib.IntN.{ℤ, pos, negsuc}
 use lib.Ieee.{Float, nan, inf, fin, binary64, up, down, unlike, fits, round, neg, sum, add, sub, mul, div}
 use lib.Ieee.Fits.{up-pos, down-pos, round-fits}

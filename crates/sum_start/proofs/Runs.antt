@@ -1,7 +1,7 @@
 -- Two runs that take lengths by sums from either zero stay the same but for signs of zeros in their directions, so they answer the same.
-use Prim.Native.Nat.{ℕ, suc}
+use Prim.Native.Nat.{ℕ}
 use mathlib.Core.Path.{_≡_, refl, sym, ap, ap₂, _∙_, subst}
-use mathlib.Core.Logic.{_⊎_, inl, inr}
+use mathlib.Core.Logic.{inl, inr}
 use mathlib.Core.Bool.{Bool, true, false}
 use mathlib.Core.List.{List, [], _∷_, map}
 use mathlib.Core.Option.{Option, none, some}
@@ -12,10 +12,10 @@ use Rattle.error.specs.declared.Refusal.{Refusal}
 use Rattle.floats.specs.Arithmetic.{_⊕_}
 use Rattle.floats.specs.Finite.{first-not-finite}
 use Rattle.floats.specs.Vector.{concat}
-use Rattle.gram_schmidt.specs.Orthonormalise.{Lengths, Basis, orthonormalise}
+use Rattle.gram_schmidt.specs.Orthonormalise.{Basis, orthonormalise}
 use Rattle.benettin.specs.Run.{Dynamics, Problem, RunState, RunRefusal, Status, ok, refused, refused-at, tested, stepped, step, with-basis, unless-collapsed, reorthonormalise, check-duration, count-faint, accumulate, Row, row, Course}
 use Rattle.benettin.specs.Run.{start-of, course-of, answer, OutputLengths, run-past, run-tests, run}
-use Rattle.benettin.specs.Estimate.{Input, dynamics, problem, estimate}
+use Rattle.benettin.specs.Estimate.{dynamics, problem, estimate}
 use Rattle.benettin.proofs.Simulation.{Relation, RefusedIn, Related, Similar, Invariant, SimilarCourses, similar-course}
 use Rattle.benettin.proofs.LeadingSpectrum.{duration-sim}
 use Rattle.sum_start.specs.SumStart.{plain-basis, with-lengths, measured-by, SameRuns}

@@ -6,7 +6,6 @@ use mathlib.Core.List.{List, [], _∷_, _++_, map, map-append}
 use mathlib.Core.Option.{Option, some, Option·map}
 use lib.ListN.{getD, List·getD-map}
 use lib.Ieee.{Float, nan}
-use lib.Ieee.Scale.{finite}
 use Rattle.floats.specs.Arithmetic.{_⊕_, _⊗_, _⊘_}
 use Rattle.floats.specs.Finite.{first-not-finite}
 use Rattle.floats.specs.Vector.{updated, dot-from, concat}
