@@ -415,6 +415,10 @@ double lyapunov_sqrt(double x);
 /*
  * The natural logarithm that a run uses, to *out. Refused by 24 unless x is positive, normal and
  * finite; *out is then not touched.
+ *
+ * Root and logarithm hold no table. A program that calls only them, linked with --gc-sections, has
+ * at most 128 bytes of read-only data of theirs. A linker that does not take constants one by one,
+ * as GNU ld does not, keeps those of the whole library beside them.
  */
 uint64_t lyapunov_ln(double x, double *out);
 

@@ -2,7 +2,7 @@
 //
 // `ln` equals the definition of specs/Logarithm.antt for every input, and refuses (24) whatever is not positive, normal
 // and finite. specs/OneSplit.antt states that the sentence "write z = m * 2^k" has exactly one solution, the one that the
-// definition computes. Each constant stands once, in `series`.
+// definition computes. There is no array, and each constant stands once, in `series` (document 02, e): host/rodata tests it.
 ghost use mathlib.Core.Path.{_≡_};
 ghost use lib.Dec.{T};
 ghost use Rattle.ln.specs.Logarithm as Spec;

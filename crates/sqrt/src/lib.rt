@@ -2,7 +2,7 @@
 //
 // `sqrt` equals the definition of specs/SquareRoot.antt for every input. That file also states what the standard asks of
 // a root, over whole numbers. specs/OneRoot.antt states that the definition meets it, that nothing else does, and that the
-// root of a positive finite value is finite and above 2^-1022.
+// root of a positive finite value is finite and above 2^-1022. There is no array (document 02, e): host/rodata tests it.
 ghost use mathlib.Core.Path.{_≡_};
 ghost use Prim.Native.Nat.{_+_, _*_, _^_, _≤_, _<_};
 ghost use lib.Dec.{T};
