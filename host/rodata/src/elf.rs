@@ -4,13 +4,13 @@
 pub struct Section {
     pub name: String,
     pub bytes: Vec<u8>,
-    /// Loaded into the program's memory.
-    pub is_loaded: bool,
+    /// In the program's memory when it runs.
+    pub is_allocated: bool,
     pub is_writable: bool,
     pub is_code: bool,
     /// The size of an entry, where the linker takes the section's entries one by one: it leaves
     /// out those that nothing points at, and makes one of those that are alike.
-    pub entry: Option<usize>,
+    pub entry_size: Option<usize>,
     /// The symbols that relocations of this section name, by their numbers.
     pub named: Vec<usize>,
 }
@@ -20,7 +20,7 @@ pub struct Symbol {
     pub name: String,
     /// `None` where the object does not define it.
     pub section: Option<usize>,
-    pub place: usize,
+    pub offset: usize,
     /// It stands for the section and for no place in it.
     pub is_section: bool,
 }
@@ -30,16 +30,17 @@ pub struct Object {
     pub symbols: Vec<Symbol>,
 }
 
-const RELOCATABLE: u64 = 1;
-const SYMBOLS: u64 = 2;
-const RELOCATIONS: u64 = 4;
-const NO_BYTES: u64 = 8;
-const WRITABLE: u64 = 1;
-const LOADED: u64 = 2;
-const CODE: u64 = 4;
-const MERGED: u64 = 16;
-const OF_TEXTS: u64 = 32;
-const SECTION_SYMBOL: u64 = 3;
+// The names of the format's own document.
+const ET_REL: u64 = 1;
+const SHT_SYMTAB: u64 = 2;
+const SHT_RELA: u64 = 4;
+const SHT_NOBITS: u64 = 8;
+const SHF_WRITE: u64 = 1;
+const SHF_ALLOC: u64 = 2;
+const SHF_EXECINSTR: u64 = 4;
+const SHF_MERGE: u64 = 16;
+const SHF_STRINGS: u64 = 32;
+const STT_SECTION: u64 = 3;
 
 /// The whole number in the `length` bytes from `at` on.
 fn number(bytes: &[u8], at: usize, length: usize) -> Result<u64, String> {
@@ -71,13 +72,13 @@ struct Header {
     name: u64,
     kind: u64,
     flags: u64,
-    from: u64,
-    length: u64,
+    offset: u64,
+    size: u64,
     /// Another section that belongs to this one: of symbols the table of their names.
     link: u64,
     /// Of relocations the section that they change.
     info: u64,
-    entry: u64,
+    entry_size: u64,
 }
 
 impl Header {
@@ -86,11 +87,11 @@ impl Header {
             name: number(bytes, at, 4)?,
             kind: number(bytes, at + 4, 4)?,
             flags: number(bytes, at + 8, 8)?,
-            from: number(bytes, at + 24, 8)?,
-            length: number(bytes, at + 32, 8)?,
+            offset: number(bytes, at + 24, 8)?,
+            size: number(bytes, at + 32, 8)?,
             link: number(bytes, at + 40, 4)?,
             info: number(bytes, at + 44, 4)?,
-            entry: number(bytes, at + 56, 8)?,
+            entry_size: number(bytes, at + 56, 8)?,
         })
     }
 
@@ -100,8 +101,8 @@ impl Header {
 
     fn bytes<'a>(&self, object: &'a [u8]) -> Result<&'a [u8], String> {
         match self.kind {
-            NO_BYTES => Ok(&[]),
-            _ => part(object, self.from, self.length),
+            SHT_NOBITS => Ok(&[]),
+            _ => part(object, self.offset, self.size),
         }
     }
 }
@@ -116,13 +117,13 @@ impl Object {
         for header in &headers {
             sections.push(section(header, bytes, names)?);
         }
-        for header in headers.iter().filter(|header| header.kind == RELOCATIONS) {
+        for header in headers.iter().filter(|header| header.kind == SHT_RELA) {
             let changed = sections.get_mut(header.info as usize);
             let changed = changed.ok_or("relocations of no section")?;
             changed.named.extend(named(header.bytes(bytes)?)?);
         }
         let mut symbols = Vec::new();
-        for header in headers.iter().filter(|header| header.kind == SYMBOLS) {
+        for header in headers.iter().filter(|header| header.kind == SHT_SYMTAB) {
             let names = headers.get(header.link as usize);
             let names = names.ok_or("no names of symbols")?.bytes(bytes)?;
             for symbol in header.bytes(bytes)?.chunks(24) {
@@ -135,7 +136,7 @@ impl Object {
 
 fn headers(bytes: &[u8]) -> Result<Vec<Header>, String> {
     let is_elf = bytes.starts_with(b"\x7fELF\x02\x01");
-    if !is_elf || number(bytes, 16, 2)? != RELOCATABLE {
+    if !is_elf || number(bytes, 16, 2)? != ET_REL {
         return Err("no relocatable ELF object of 64 bits, little-endian".to_string());
     }
     let from = number(bytes, 40, 8)? as usize;
@@ -148,15 +149,15 @@ fn headers(bytes: &[u8]) -> Result<Vec<Header>, String> {
 }
 
 fn section(header: &Header, bytes: &[u8], names: &[u8]) -> Result<Section, String> {
-    let by_entry = header.has(MERGED) && !header.has(OF_TEXTS) && header.entry > 0;
+    let by_entry = header.has(SHF_MERGE) && !header.has(SHF_STRINGS) && header.entry_size > 0;
     Ok(Section {
         name: name(names, header.name)?,
         bytes: header.bytes(bytes)?.to_vec(),
-        is_loaded: header.has(LOADED),
+        is_allocated: header.has(SHF_ALLOC),
         // Memory that has no bytes in the file is there to be written.
-        is_writable: header.has(WRITABLE) || header.kind == NO_BYTES,
-        is_code: header.has(CODE),
-        entry: by_entry.then_some(header.entry as usize),
+        is_writable: header.has(SHF_WRITE) || header.kind == SHT_NOBITS,
+        is_code: header.has(SHF_EXECINSTR),
+        entry_size: by_entry.then_some(header.entry_size as usize),
         named: Vec::new(),
     })
 }
@@ -172,8 +173,8 @@ fn symbol_of(symbol: &[u8], names: &[u8], sections: usize) -> Result<Symbol, Str
     Ok(Symbol {
         name: name(names, number(symbol, 0, 4)?)?,
         section: (1..sections).contains(&section).then_some(section),
-        place: number(symbol, 8, 8)? as usize,
-        is_section: number(symbol, 4, 1)? & 15 == SECTION_SYMBOL,
+        offset: number(symbol, 8, 8)? as usize,
+        is_section: number(symbol, 4, 1)? & 15 == STT_SECTION,
     })
 }
 

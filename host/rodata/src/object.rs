@@ -2,8 +2,9 @@
 //! that calls only them.
 //!
 //! From the two exported functions relocations lead to all code and data that a linker has to
-//! keep. Single constants are entries of a section, of which only those count that are pointed at.
-//! Other data is a table, and counts whole. A compiler may make one of a choice in the code.
+//! keep. Single constants are entries of a section, of which only those count that are pointed at,
+//! and of those that are alike one, as the linker has it. Other data is a table, and counts whole. A
+//! compiler may make one of a choice in the code.
 
 use crate::constants::NAMES;
 use crate::elf::Object;
@@ -79,7 +80,7 @@ pub fn brought(object: &Object, functions: &[&str]) -> Result<Brought, String> {
             continue;
         }
         brought.data.push(bytes.to_vec());
-        if section.entry.is_none() {
+        if section.entry_size.is_none() {
             brought.tables.push(section.name.clone());
         }
     }
@@ -101,13 +102,13 @@ fn kept(object: &Object, symbol: usize) -> Result<(usize, &[u8]), String> {
         .section
         .ok_or_else(|| format!("{} is not in the object", symbol.name))?;
     let section = &object.sections[index];
-    if !section.is_loaded || section.is_writable {
+    if !section.is_allocated || section.is_writable {
         return Err(format!("{} is not read-only", section.name));
     }
-    let Some(entry) = section.entry.filter(|_| !symbol.is_section) else {
+    let Some(entry) = section.entry_size.filter(|_| !symbol.is_section) else {
         return Ok((index, &section.bytes));
     };
-    let from = symbol.place - symbol.place % entry;
+    let from = symbol.offset - symbol.offset % entry;
     let bytes = section.bytes.get(from..from.saturating_add(entry));
     let bytes = bytes.ok_or_else(|| format!("{}: no entry at {from}", section.name))?;
     Ok((index, bytes))

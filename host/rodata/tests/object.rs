@@ -57,6 +57,9 @@ fn without_a_fault() {
     // Other functions, and their data, are not brought along.
     let other = "double other(int i) { static const double t[99] = {1, 2}; return t[i]; }";
     assert_eq!(faults("other", &format!("{SOUND}{other}")), Ok(vec![]));
+    // A constant that both functions take is one entry.
+    let shared = "return x * bits(0x3fe5555555555593u);";
+    assert_eq!(planted("shared", "return x * 3.0;", shared), Ok(vec![]));
 }
 
 #[test]
