@@ -5,6 +5,8 @@
 // written. specs/LeadingSpectrum.antt states that the first rates hold still when more are asked for, and
 // specs/LeadingOutputs.antt states it of two calls. validation.rt makes the tests 1 to 13. Crate estimator runs: its code
 // meets the contract.
+#![tactic(auto)]
+
 pub mod validation;
 
 ghost use Rattle.std.specs.Prelude.{◌≡◌};
@@ -19,7 +21,7 @@ pub const COUNT_LIMIT: u64 = 16777216;
 pub const DEFAULT_SEED: u64 = 0x4c59_4150_554e_4f56;
 
 // The settings of a run. Nothing is promised of the fields: a run tests them.
-#[derive(Drop)]
+#[derive(Clone, Copy)]
 pub struct BenettinConfig {
     pub top_k: usize,
     pub step_size: f64,
@@ -30,7 +32,7 @@ pub struct BenettinConfig {
 }
 
 // What building the settings answers.
-#[derive(Drop)]
+#[derive(Clone, Copy)]
 pub enum Configured {
     Config(BenettinConfig),
     Refused(LyapunovError),
@@ -38,7 +40,7 @@ pub enum Configured {
 
 // What a run answers beside the rows, the exponents and the final state. A refused run has finished `windows` measured
 // windows, its times are +0.0 and its faint counts 0.
-#[derive(Drop)]
+#[derive(Clone, Copy)]
 pub struct SpectrumEstimate {
     pub outcome: Outcome,
     pub windows: u64,

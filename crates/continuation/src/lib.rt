@@ -2,6 +2,8 @@
 //
 // specs/Continuation.antt defines what going on answers and leaves, and states that it is one run, from where the shorter one
 // stood. specs/LeadingContinued.antt states it of two calls, and that the first rates hold still there too. Crate keep goes on.
+#![tactic(auto)]
+
 ghost use Rattle.std.specs.Prelude.{◌≡◌, ◌+◌, ◌≤◌, leb};
 ghost use Rattle.error.specs.Refusal.{reported};
 ghost use Rattle.error.specs.Tests.{first_failing};

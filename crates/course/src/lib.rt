@@ -3,6 +3,8 @@
 // `warm_up` and `measure` are `pub` because other crates of ours go on with a run: each has a `requires`, as crate progress
 // has, and goes by its windows. Start with specs/Course.antt, which says what each leaves: the windows themselves are defined
 // in crate benettin. Crate estimator has the whole run over these loops. Nothing is allocated.
+#![tactic(auto)]
+
 ghost use Rattle.std.specs.Prelude.{◌*◌, ◌≤◌, ◌+◌, length};
 ghost use Rattle.benettin.specs.Estimate.{limit};
 ghost use Rattle.totals.specs.Progress.{held};

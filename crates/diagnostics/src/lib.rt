@@ -4,6 +4,8 @@
 // Start with specs/Rates.antt. specs/OrderedCopy.antt and specs/Range.antt state what is proved of the dimension: its
 // ordered copy is in order, holds the same floats equally often and is the only such list, and the value lies from 0 to
 // the count. specs/Marked.antt has document 01's examples.
+#![tactic(auto)]
+
 ghost use Rattle.std.specs.Prelude.{◌≡◌, ◌++◌, ◌+◌, ◌≤◌, ◌<◌, length, take, drop};
 ghost use Rattle.error.specs.Refusal.{reported};
 ghost use Rattle.floats.specs.Arithmetic.{zero⁺};
@@ -15,7 +17,7 @@ ghost use Rattle.diagnostics.specs.Rates as Rates;
 use error::{LyapunovError, Outcome};
 use floats::Position;
 
-#[derive(Drop)]
+#[derive(Clone, Copy)]
 pub enum Diagnostic {
     Value(f64),
     Refused(LyapunovError),

@@ -2,7 +2,7 @@
 use Rattle.std.specs.Prelude.{ℕ, ◌+◌, ◌*◌, ◌≤◌, ◌<◌, ◌≡◌, true, ◌≢◌, List, [], length, get_or, replicate, Float}
 use Rattle.std.proofs.Math.Option.{Option, none, some}
 use Rattle.std.proofs.lemmas.List.Edits.{sets}
-use Rattle.error.specs.Refusal.{refusal}
+use Rattle.error.specs.Refusal.{refuse, refusal}
 use Rattle.error.specs.Tests.{first_failing}
 use Rattle.error.specs.declared.Refusal.{Refusal}
 use Rattle.floats.specs.Arithmetic.{zero⁺}
@@ -16,7 +16,7 @@ use Rattle.schedule.specs.Schedule.{Memory}
 use Rattle.schedule.specs.Promises.{Sized}
 use Rattle.dispatching.specs.Served.{Served, served}
 use Rattle.dispatch.specs.declared.Admission.{Admission}
-use Rattle.dispatch.specs.declared.Admission.TheVariants.{Named, Refused}
+use Rattle.dispatch.specs.declared.Admission.TheVariants.{Named, Full, Refused}
 use Rattle.dispatch.specs.declared.Stage.{Stage}
 use Rattle.dispatch.specs.declared.Stage.TheVariants.{Nobody, Unfit, UnderWay, Over}
 use Rattle.dispatch.specs.declared.TurnTaken.{TurnTaken}
@@ -25,6 +25,7 @@ use Rattle.dispatch.specs.declared.TurnTaken.{TurnTaken}
 
 abbrev pub admission : Admission → Reply
 admission (Named n) = named n
+admission Full = rejected (refuse 28 0)
 admission (Refused e) = rejected (refusal e)
 
 -- past the tests

@@ -19,7 +19,7 @@ use Rattle.progress.specs.UnderWay.{Fits, recorded}
 use Rattle.course.specs.Course.{written}
 use Rattle.store.specs.Slots as Slots
 use Rattle.store.specs.Slots.{tag_at}
-use Rattle.store.specs.Promises.{saved_beside}
+use Rattle.store.specs.Beside.{saved_beside}
 use Rattle.turns.specs.Turn.{Job, warming, window_by, warmed_by, place}
 use Rattle.schedule.specs.Schedule.{Memory, names_in, rotated, shortened, sound_at}
 use Rattle.schedule.specs.Promises.{Sized, settings_at}

@@ -99,6 +99,7 @@ fn make_window(
     let a = 321 * slot + 16;
     let e = a + k * state.len();
     let system = settings.system;
+    let finished = from.windows;
     let made = progress::window(
         system,
         matrix,
@@ -118,9 +119,9 @@ fn make_window(
         return made;
     };
     let width = 1 + 2 * k;
-    let b = from.windows as usize * width;
+    let b = finished as usize * width;
     let f = b + width;
-    progress::record_window(norms, &mut rows[b..f], k, h, n, made)
+    progress::record::record_window(norms, &mut rows[b..f], k, h, n, made)
 }
 
 // How many warm-up windows are made after one window more.
@@ -145,7 +146,7 @@ fn put_back(
     ensures { Turns.PutBack slot settings floats.old counts.old queue.old state.now norms.now done
         floats.new counts.new queue.new }
 {
-    store::save_beside(
+    store::beside::save_beside(
         floats,
         counts,
         slot,
@@ -224,7 +225,7 @@ fn turn_in(
         (Served.given_in none slot matrix.now (slices rows.old exponents.old final_state.old) (Schedule.memory (Slots.memory floats.old counts.old) stored.now queue.old)) }
 {
     let k = settings.rates;
-    let from = store::load_beside(floats, counts, slot, state, norms, k);
+    let from = store::beside::load_beside(floats, counts, slot, state, norms, k);
     let begun = settings.warmed + from.windows + 1;
     let done = make_window(floats, slot, settings, matrix, state, norms, rows, from);
     let outcome = done.outcome;

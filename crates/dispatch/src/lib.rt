@@ -4,6 +4,8 @@
 // specs/Served.antt of crate dispatching, which says what a call answers and leaves in memory, whatever the memory holds;
 // specs/Dispatched.antt there states what follows over lists of calls. front.rt has the turn of the run in front. Crate schedule has the
 // queue, crate store the slots of the runs, crate progress the windows.
+#![tactic(auto)]
+
 mod front;
 
 ghost use Rattle.std.specs.Prelude.{◌≡◌, false, ◌<◌, [], get_or, replicate};
@@ -22,15 +24,16 @@ use error::{LyapunovError, Outcome};
 use floats::Position;
 use system::System;
 
-// Whether a run is taken: under which name, or why it is not.
-#[derive(Drop)]
+// Whether a run is taken: under which name, or why it is not. There is no room where eight runs are unfinished.
+#[derive(Clone, Copy)]
 pub enum Admission {
     Named(usize),
+    Full,
     Refused(LyapunovError),
 }
 
 // What a turn did to the run with a name, if there was one: nothing, since what was lent does not fit; one window; its last one.
-#[derive(Drop)]
+#[derive(Clone, Copy)]
 pub enum Stage {
     Nobody,
     Unfit(usize),
@@ -39,7 +42,7 @@ pub enum Stage {
 }
 
 // A turn, with how many windows of its run are begun. The estimate is the run's answer where it is over.
-#[derive(Drop)]
+#[derive(Clone, Copy)]
 pub struct TurnTaken {
     pub stage: Stage,
     pub begun: u64,
@@ -147,7 +150,7 @@ pub fn hand_in(
     if queue[56] < 8 {
         admit(floats, counts, settings, queue, system, time, state, config)
     } else {
-        Admission::Refused(LyapunovError::DispatcherFull)
+        Admission::Full
     }
 }
 

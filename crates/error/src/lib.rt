@@ -3,13 +3,15 @@
 // Every refusal of the library is a LyapunovError. specs/Refusal.antt gives each variant the number and the place that
 // document 01 gives it, and every contract that speaks of a refusal goes through that definition: start reading there.
 // specs/Tests.antt says what a list of tests refuses; `test` and `first_refusal` make such lists.
+#![tactic(auto)]
+
 ghost use Rattle.std.specs.Prelude.{◌≡◌, [], ◌∷◌};
 ghost use Rattle.error.specs.Refusal as Spec;
 ghost use Rattle.error.specs.Tests as Tests;
 ghost use Rattle.error.specs.Tests.{◌else◌};
 
 // A variant holds its place where document 01 or 02 gives it one. The source's names are kept where it has the variant.
-#[derive(Drop)]
+#[derive(Clone, Copy)]
 pub enum LyapunovError {
     ZeroTopK,
     InvalidStepSize,
@@ -38,11 +40,10 @@ pub enum LyapunovError {
     TooFewCells,
     NoSuchNumber,
     StoreFull,
-    DispatcherFull,
 }
 
 // What a call answers that may be refused and has no value to give.
-#[derive(Drop)]
+#[derive(Clone, Copy)]
 pub enum Outcome {
     Accepted,
     Refused(LyapunovError),
@@ -50,7 +51,7 @@ pub enum Outcome {
 
 // A refusal's number and its place. `place` is document 01's own term: the index, direction or output that the refusal
 // points at, and 0 where none is stated.
-#[derive(Drop)]
+#[derive(Clone, Copy)]
 pub struct Refusal {
     pub number: u64,
     pub place: usize,
@@ -88,7 +89,6 @@ pub fn number(error: LyapunovError) -> u64
         LyapunovError::TooFewCells => 25,
         LyapunovError::NoSuchNumber => 26,
         LyapunovError::StoreFull => 27,
-        LyapunovError::DispatcherFull => 28,
     }
 }
 

@@ -56,7 +56,16 @@ pub fn complete(
         config.windows,
         from,
     );
-    let estimate = totals::end(state, exponents, final_state, k, h, n, total, progress);
+    let estimate = totals::end(
+        state,
+        exponents,
+        final_state,
+        k,
+        h,
+        n,
+        total,
+        Progress { ..progress },
+    );
     RunEnd { estimate, progress }
 }
 

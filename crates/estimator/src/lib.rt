@@ -5,4 +5,6 @@
 // definition of which specs/Refusals.antt there states demand 1 and specs/LeadingOutputs.antt demand 3. Crate course has the
 // loops over windows, progress the run under way that they go by (begin, window), and totals its end. The state, the
 // directions, their logarithms and squared lengths lie in arrays on the stack; nothing is allocated.
+#![tactic(auto)]
+
 pub mod estimate;

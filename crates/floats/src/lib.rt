@@ -4,6 +4,8 @@
 // IEEE 754 that the crates above cite: values in units of the smallest one (Units), bit patterns (Pattern), one value
 // has one form (OneForm), comparisons with zero (Zero), lists entry by entry (Updated) and vectors in a slice
 // (Vector). Start with specs/.
+#![tactic(auto)]
+
 ghost use Rattle.std.specs.Prelude.{◌≡◌};
 ghost use Rattle.std.specs.Float.{binary64};
 ghost use Rattle.std.specs.Float.Ieee.{to_bits};
@@ -25,7 +27,7 @@ pub const EXPONENT_UNIT: u64 = 0x0010_0000_0000_0000;
 pub const SIGN_BIT: u64 = 0x8000_0000_0000_0000;
 
 // Where in a slice, if anywhere.
-#[derive(Drop)]
+#[derive(Clone, Copy)]
 pub enum Position {
     At(usize),
     Nowhere,

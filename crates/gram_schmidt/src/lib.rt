@@ -4,6 +4,8 @@
 // answer, and every float left in both slices. specs/Orthonormalise.antt has the operations on one direction after the
 // other, over how lengths are taken; the code takes them by `euclidean`. specs/Collapse.antt says what a collapse means
 // there: a squared length of 0 or one that is not finite.
+#![tactic(auto)]
+
 ghost use Rattle.std.specs.Prelude.{◌≡◌, ◌+◌, ◌*◌, ◌≤◌, ◌<◌, map, length};
 ghost use Rattle.std.proofs.lemmas.List.Edits.{sets};
 ghost use Rattle.floats.specs.Arithmetic.{◌⊘◌};
@@ -18,7 +20,7 @@ use error::{LyapunovError, Outcome};
 const SUM_START: f64 = -0.0;
 
 // What becomes of a cleared direction: its logarithm and its squared length, or nothing.
-#[derive(Drop)]
+#[derive(Clone, Copy)]
 enum Normalised {
     By(f64, f64),
     Collapsed,

@@ -1,8 +1,10 @@
-// What the C interface hands over as numbers: what is returned and written for a refusal, for a run and for a diagnostic. Crate
-// system_numbers has a system by its number.
+// What the C interface hands over as numbers: a system by its number, and what is returned and written for a refusal, for a run
+// and for a diagnostic.
 //
 // Every function meets a definition of specs/Interface.antt, for every input: start reading there. That file also has what the
 // contracts of the exported functions cite. Crate lyapunov exports those; only it calls these.
+#![tactic(auto)]
+
 ghost use Rattle.std.specs.Prelude.{◌≡◌, List, ◌∷◌, Float};
 ghost use Rattle.error.specs.Refusal.{reported};
 ghost use Rattle.benettin.specs.Outputs.{observed};
@@ -11,6 +13,40 @@ ghost use Rattle.interface.specs.Interface as Interface;
 
 use benettin::SpectrumEstimate;
 use error::Outcome;
+use system::System;
+
+// A system by its number.
+pub fn system_of(kind: u64, p0: f64, p1: f64, p2: f64, dimension: usize) -> System
+    ensures { result ≡ Interface.system kind p0 p1 p2 dimension }
+{
+    if kind == 0 {
+        return System::Lorenz {
+            sigma: p0,
+            rho: p1,
+            beta: p2,
+        };
+    }
+    if kind == 1 {
+        return System::Rossler {
+            a: p0,
+            b: p1,
+            c: p2,
+        };
+    }
+    if kind == 2 {
+        return System::VanDerPol { mu: p0 };
+    }
+    if kind == 3 {
+        return System::Linear(dimension);
+    }
+    if kind == 4 {
+        return System::Lorenz96 {
+            cells: dimension,
+            forcing: p0,
+        };
+    }
+    System::Linear(0)
+}
 
 // The number of what is refused is the result, and its place goes to `place`.
 pub fn report(outcome: Outcome, place: &mut u64) -> u64

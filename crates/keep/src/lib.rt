@@ -4,6 +4,8 @@
 // specs/Served.antt of crate calls, which says what a call answers and leaves in memory, whatever the memory holds; crate
 // calls states what follows over lists of calls. Crate store has the slots, crate estimator the run, crate resume the going on
 // from a slot.
+#![tactic(auto)]
+
 ghost use Rattle.std.specs.Prelude.{◌≡◌, ◌<◌, replicate};
 ghost use Rattle.std.proofs.Math.Option.{some};
 ghost use Rattle.error.specs.Refusal.{reported};

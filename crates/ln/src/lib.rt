@@ -3,12 +3,14 @@
 // `ln` equals the definition of specs/Logarithm.antt for every input, and refuses (24) whatever is not positive, normal
 // and finite. specs/OneSplit.antt states that the sentence "write z = m * 2^k" has exactly one solution, the one that the
 // definition computes. There is no array, and each constant stands once, in `series` (document 02, e): host/rodata tests it.
+#![tactic(auto)]
+
 ghost use Rattle.std.specs.Prelude.{◌≡◌, T};
 ghost use Rattle.ln.specs.Logarithm as Spec;
 
 use error::LyapunovError;
 
-#[derive(Drop)]
+#[derive(Clone, Copy)]
 pub enum Logarithm {
     Value(f64),
     Refused(LyapunovError),

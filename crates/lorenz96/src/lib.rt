@@ -5,12 +5,14 @@
 //
 // A cell needs the one after it and the two before it. The loops carry them along and load each pair of cells once, so that
 // pairs stay whole between memory and registers: a pair that is loaded from two stores has to wait for both.
+#![tactic(auto)]
+
 ghost use Rattle.std.specs.Prelude.{◌≡◌, ℕ, ◌+◌, ◌%◌, ◌≤◌, ◌<◌, List, length, take, Float};
 ghost use Rattle.lorenz96.specs.Ring.{ring, cell_field, cell_tangent, ring_field, ring_tangent};
 ghost use Rattle.lorenz96.specs.Around.{Cells, Around, Following};
 
 // A cell and the two before it.
-#[derive(Drop)]
+#[derive(Clone, Copy)]
 struct Stencil {
     two_before: f64,
     before: f64,
@@ -18,7 +20,7 @@ struct Stencil {
 }
 
 // Two cells that lie side by side.
-#[derive(Drop)]
+#[derive(Clone, Copy)]
 struct Pair {
     first: f64,
     second: f64,

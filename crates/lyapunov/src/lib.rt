@@ -4,6 +4,8 @@
 // none, as specs/Refusal.antt of crate error has it. specs/Interface.antt of crate interface says what a system's number means,
 // and what is written through a pointer. specs/LeadingOutputs.antt states that a call from C is a call of the library's own
 // function, and that its first rates hold still. specs/Marked.antt is document 01's table of marked examples.
+#![tactic(auto)]
+
 ghost use Rattle.std.specs.Prelude.{◌≡◌, replicate};
 ghost use Rattle.sqrt.specs.SquareRoot.{root};
 ghost use Rattle.ln.specs.Logarithm.{logarithm};
@@ -17,7 +19,6 @@ ghost use Rattle.diagnostics.specs.Rates as Rates;
 ghost use Rattle.store.specs.Slots.{memory};
 ghost use Rattle.calls.specs.Calls as Calls;
 ghost use Rattle.calls.specs.Served.{serve};
-ghost use Rattle.system_numbers.specs.Numbers as Numbers;
 ghost use Rattle.interface.specs.Interface as Interface;
 
 use benettin::{BenettinConfig, Configured, validation};
@@ -100,9 +101,9 @@ pub extern "C" fn lyapunov_step(
     place: &mut u64,
 ) -> u64
     ensures { Interface.StepReturns result place.new state.new tangents.new
-        (stepped (Numbers.system kind p0 p1 p2 dimension) matrix.now time state.old tangents.old count step_size) }
+        (stepped (Interface.system kind p0 p1 p2 dimension) matrix.now time state.old tangents.old count step_size) }
 {
-    let system = system_numbers::system_of(kind, p0, p1, p2, dimension);
+    let system = interface::system_of(kind, p0, p1, p2, dimension);
     let outcome = rk4::step(system, matrix, time, state, tangents, count, step_size);
     interface::report(outcome, place)
 }
@@ -143,10 +144,10 @@ pub extern "C" fn lyapunov_validate(
     place: &mut u64,
 ) -> u64
     ensures { Interface.Refuses result place.new (Interface.input_refusal
-        (input (Numbers.system kind p0 p1 p2 dimension) matrix.now time state.now (settings top_k step_size steps_per_window windows transient_windows default_seed))
+        (input (Interface.system kind p0 p1 p2 dimension) matrix.now time state.now (settings top_k step_size steps_per_window windows transient_windows default_seed))
         top_k) }
 {
-    let system = system_numbers::system_of(kind, p0, p1, p2, dimension);
+    let system = interface::system_of(kind, p0, p1, p2, dimension);
     let config = BenettinConfig {
         top_k,
         step_size,
@@ -183,11 +184,11 @@ pub extern "C" fn lyapunov_estimate_spectrum_at(
     counts: &mut [u64; 19],
     times: &mut [f64; 2],
 ) -> u64
-    ensures { Interface.Meets (input (Numbers.system kind p0 p1 p2 dimension) matrix.now time state.now (settings top_k step_size steps_per_window windows transient_windows seed))
+    ensures { Interface.Meets (input (Interface.system kind p0 p1 p2 dimension) matrix.now time state.now (settings top_k step_size steps_per_window windows transient_windows seed))
         top_k
         (Interface.call rows.old exponents.old final_state.old result counts.new times.new rows.new exponents.new final_state.new) }
 {
-    let system = system_numbers::system_of(kind, p0, p1, p2, dimension);
+    let system = interface::system_of(kind, p0, p1, p2, dimension);
     let config = BenettinConfig {
         top_k,
         step_size,
@@ -231,11 +232,11 @@ pub extern "C" fn lyapunov_estimate_spectrum(
     counts: &mut [u64; 19],
     times: &mut [f64; 2],
 ) -> u64
-    ensures { Interface.Meets (input (Numbers.system kind p0 p1 p2 dimension) matrix.now zero⁺ state.now (settings top_k step_size steps_per_window windows transient_windows seed))
+    ensures { Interface.Meets (input (Interface.system kind p0 p1 p2 dimension) matrix.now zero⁺ state.now (settings top_k step_size steps_per_window windows transient_windows seed))
         top_k
         (Interface.call rows.old exponents.old final_state.old result counts.new times.new rows.new exponents.new final_state.new) }
 {
-    let system = system_numbers::system_of(kind, p0, p1, p2, dimension);
+    let system = interface::system_of(kind, p0, p1, p2, dimension);
     let config = BenettinConfig {
         top_k,
         step_size,
@@ -275,11 +276,11 @@ pub extern "C" fn lyapunov_estimate_largest(
     counts: &mut [u64; 19],
     times: &mut [f64; 2],
 ) -> u64
-    ensures { Interface.Meets (input (Numbers.system kind p0 p1 p2 dimension) matrix.now zero⁺ state.now (settings 1 step_size steps_per_window windows 0 default_seed))
+    ensures { Interface.Meets (input (Interface.system kind p0 p1 p2 dimension) matrix.now zero⁺ state.now (settings 1 step_size steps_per_window windows 0 default_seed))
         1
         (Interface.call rows.old exponents.old final_state.old result counts.new times.new rows.new exponents.new final_state.new) }
 {
-    let system = system_numbers::system_of(kind, p0, p1, p2, dimension);
+    let system = interface::system_of(kind, p0, p1, p2, dimension);
     let answer = estimator::estimate::estimate_largest(
         system,
         matrix,
@@ -331,10 +332,10 @@ pub extern "C" fn lyapunov_keep(
     ensures { Interface.KeeperReturns result counts.new times.new
         rows.new exponents.new final_state.new (memory store_floats.new store_counts.new)
         (serve (memory store_floats.old store_counts.old) (Calls.keep number
-        (Calls.brought (input (Numbers.system kind p0 p1 p2 dimension) matrix.now time state.now (settings top_k step_size steps_per_window windows transient_windows seed))
+        (Calls.brought (input (Interface.system kind p0 p1 p2 dimension) matrix.now time state.now (settings top_k step_size steps_per_window windows transient_windows seed))
         top_k rows.old exponents.old final_state.old))) }
 {
-    let system = system_numbers::system_of(kind, p0, p1, p2, dimension);
+    let system = interface::system_of(kind, p0, p1, p2, dimension);
     let config = BenettinConfig {
         top_k,
         step_size,
@@ -388,10 +389,10 @@ pub extern "C" fn lyapunov_go_on(
     ensures { Interface.KeeperReturns result counts.new times.new
         rows.new exponents.new final_state.new (memory store_floats.now store_counts.now)
         (serve (memory store_floats.now store_counts.now) (Calls.go_on number
-        (Calls.brought (input (Numbers.system kind p0 p1 p2 dimension) matrix.now time state.now (settings top_k step_size steps_per_window windows transient_windows seed))
+        (Calls.brought (input (Interface.system kind p0 p1 p2 dimension) matrix.now time state.now (settings top_k step_size steps_per_window windows transient_windows seed))
         top_k rows.old exponents.old final_state.old))) }
 {
-    let system = system_numbers::system_of(kind, p0, p1, p2, dimension);
+    let system = interface::system_of(kind, p0, p1, p2, dimension);
     let config = BenettinConfig {
         top_k,
         step_size,

@@ -6,6 +6,8 @@
 //
 // A product sums all rows at once, a column at a time, at a literal width: the sums run side by side, and each still adds in
 // index order. So the matrix is transposed once a step, into columns of 8 or 16 entries.
+#![tactic(auto)]
+
 ghost use Rattle.std.specs.Prelude.{◌≡◌, ℕ, ◌+◌, ◌*◌, ◌≤◌, ◌<◌, List, length, take, get_or, Float};
 ghost use Rattle.std.specs.Float.{nan};
 ghost use Rattle.floats.specs.Arithmetic.{◌⊕◌, ◌⊗◌};

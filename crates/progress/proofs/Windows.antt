@@ -23,7 +23,7 @@ use Rattle.benettin.specs.Estimate.{dynamics, limit}
 use Rattle.totals.specs.Progress.{Held, held, motion, norms_of, totals, joined, run_state, status_of, status, after_steps, with_faint, with_sums, counted}
 use Rattle.totals.specs.Ending.{most}
 use Rattle.totals.specs.declared.Progress.{Progress}
-use Rattle.progress.specs.UnderWay.{Fits, Advanced, Windowed, Records, WindowRecorded, with_row_of, MeasuredWindow}
+use Rattle.progress.specs.UnderWay.{Fits, Advanced, Windowed, WindowRecorded, with_row_of, MeasuredWindow}
 use Rattle.progress.specs.declared.advance.Advance.{Advance}
 use Rattle.progress.proofs.Basis.{reorthonormalised, reports_many}
 use Rattle.progress.proofs.Bounds.{bounded_steps, bounded_counted, bounded_added}
@@ -106,19 +106,22 @@ module _ {S : System} {m : List Float} {k : ℕ} {h : Float} {H : Held} {n : ℕ
 -- ---- a measured window
 
 -- the sums and the row, from what the calls tell
-module _ {k : ℕ} {h : Float} {n : ℕ} {norms row : List Float} {q : Progress} (R : Records k n norms row q) where
+module _ {k : ℕ} {h : Float} {n : ℕ} {norms : List Float} {q : Progress} (l : length norms ≡ 32) (f : k ≤ 16) (z : length q.sums ≡ 16) (v : q.outcome ≡ Accepted) where
   pub recorded_is : (p : Progress) (new : List Float) (D w : Float) → p ≡ with_sums q (updated (◌⊕◌) q.sums (take k norms)) → D ≡ h ⊗ as_float n → w ≡ as_float p.windows
       → new ≡ p.time ∷ map (λ y. y ⊘ D) (take k norms) ++ map (λ y. y ⊘ (D ⊗ w)) (take (length (take k norms)) p.sums)
       → WindowRecorded k h n norms q p new
   unfolding Run.row accumulate
   recorded_is p new D w ep eD ew en =
-      let c : length (take k norms) ≡ k = length-take-le k norms (omega (arith, R.norms, R.few)) in
-      let s : take k (updated (◌⊕◌) q.sums (take k norms)) ≡ zip (◌⊕◌) (take k q.sums) (take k norms) = updated_take (◌⊕◌) q.sums (take k norms) k c (omega (arith, R.bounded.sums, R.few)) in
+      let c : length (take k norms) ≡ k = length-take-le k norms (omega (arith, l, f)) in
+      let s : take k (updated (◌⊕◌) q.sums (take k norms)) ≡ zip (◌⊕◌) (take k q.sums) (take k norms) = updated_take (◌⊕◌) q.sums (take k norms) k c (omega (arith, z, f)) in
       let ew' : w ≡ as_float (q.windows + 1) = ew ∙ ap (λ (r : Progress). as_float r.windows) ep in
       let en' : new ≡ q.time ∷ map (λ y. y ⊘ (h ⊗ as_float n)) (take k norms) ++ map (λ y. y ⊘ ((h ⊗ as_float n) ⊗ as_float (q.windows + 1))) (take k (updated (◌⊕◌) q.sums (take k norms))) =
-      en ∙ rw (ep, eD, ew', c) in
+      en ∙ ap (λ (d : Float). p.time ∷ map (λ y. y ⊘ d) (take k norms) ++ map (λ y. y ⊘ (d ⊗ w)) (take (length (take k norms)) p.sums)) eD ∙ rw (ep, ew', c) in
       record {
-        row_left = λ M d x t old eM. rw (ep, R.accepted, en', s, eM, add-one);
+        row_left = λ M d x t old eM.
+            let e : new ≡ q.time ∷ map (λ y. y ⊘ M.duration) (take k norms) ++ map (λ y. y ⊘ (M.duration ⊗ as_float (q.windows + 1))) (take k (updated (◌⊕◌) q.sums (take k norms))) =
+            en' ∙ ap (λ (v : Float). q.time ∷ map (λ y. y ⊘ v) (take k norms) ++ map (λ y. y ⊘ (v ⊗ as_float (q.windows + 1))) (take k (updated (◌⊕◌) q.sums (take k norms)))) (sym eM) in
+            rw (ep, v, e, s, add-one);
         bounded = λ a b x. rw ep (bounded_added x (updated (◌⊕◌) q.sums (take k norms)) (updated_length (◌⊕◌) q.sums (take k norms)));
       }
 
@@ -131,10 +134,19 @@ module _ {S : System} {m : List Float} {k : ℕ} {h : Float} {n : ℕ} {H H' : H
             record { counts = y.counts; behind = y.behind; sums = y.sums; clock = y.clock; steps = y.steps; windows = omega (arith, y.windows); faint = y.faint };
       }
 
-  pub measured_done : H'.progress.outcome ≡ Accepted → (p : Progress) (new : List Float) → WindowRecorded k h n H'.norms H'.progress p new
-      → MeasuredWindow S m k h n H old (held H'.state H'.tangents H'.norms p) new
+  abbrev q : Progress
+  q = H'.progress
+
+  abbrev norms : List Float
+  norms = H'.norms
+
+  pub measured_done : length norms ≡ 32 → k ≤ 16 → length q.sums ≡ 16 → q.outcome ≡ Accepted
+      → (p : Progress) (new : List Float) (D w : Float) → p ≡ with_sums q (updated (◌⊕◌) q.sums (take k norms)) → D ≡ h ⊗ as_float n → w ≡ as_float p.windows
+      → new ≡ p.time ∷ map (λ y. y ⊘ D) (take k norms) ++ map (λ y. y ⊘ (D ⊗ w)) (take (length (take k norms)) p.sums)
+      → MeasuredWindow S m k h n H old (held H'.state H'.tangents norms p) new
   unfolding dynamics
-  measured_done v p new R =
+  measured_done l f z v p new D w ep eD ew en =
+      let R : WindowRecorded k h n norms q p new = recorded_is l f z v p new D w ep eD ew en in
       record {
         row_left = R.row_left (dynamics S m h n) (dim S) H'.state H'.tangents old refl ∙ ap (with_row_of (dynamics S m h n) old) (sym (ap (λ (o : Outcome). status_of (reported o) (run_state (dim S) k H')) v) ∙ W.status n);
         bounded = λ a b x. R.bounded (a + 1) b (W.bounded a b x);

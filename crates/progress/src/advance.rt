@@ -9,7 +9,7 @@ use error::{LyapunovError, Outcome};
 use system::System;
 
 // What steps come to: how many were made, and the time after them.
-#[derive(Drop)]
+#[derive(Clone, Copy)]
 pub struct Advance {
     pub outcome: Outcome,
     pub steps: u64,

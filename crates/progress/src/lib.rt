@@ -1,5 +1,5 @@
-// A run under way: begin, one window, what is recorded of a measured one, one measured window with its row. Crate course has the loops over windows, and
-// crate estimator the whole run over them.
+// A run under way: begin, one window, one measured window with its row. Crate course has the loops over windows, and
+// crate estimator the whole run over them. record.rt has what is recorded of a measured window, for runs that take turns.
 //
 // These functions are `pub` because other crates of ours go on with a run: each has a `requires`, which says what passed the
 // tests and how long the slices are. What a run carries lies in a `Progress` and in three slices: the state, the directions
@@ -7,8 +7,11 @@
 // which says which state of a run that stands for, and specs/UnderWay.antt, which says what each function leaves: the run
 // itself is defined in crate benettin. draw.rt, advance.rt and crate totals, which has `Progress` and the end of a run, have
 // the parts of these functions.
+#![tactic(auto)]
+
 mod advance;
 mod draw;
+pub mod record;
 
 ghost use Rattle.std.specs.Prelude.{◌*◌, ◌+◌, ◌≡◌, length};
 ghost use Rattle.totals.specs.Progress.{held};
@@ -73,25 +76,6 @@ pub fn window(
     totals::count_faint(q, &norms[k..e])
 }
 
-// What a measured window adds once it is made: the sums, and its row.
-pub fn record_window(
-    norms: &[f64],
-    row: &mut [f64],
-    k: usize,
-    h: f64,
-    n: u64,
-    made: Progress,
-) -> Progress
-    requires { Under.Records k n norms.now row.old made }
-    ensures { Under.WindowRecorded k h n norms.now made result row.new }
-{
-    let p = totals::add_logs(made, &norms[..k]);
-    let length = totals::duration(h, n);
-    let elapsed = length * totals::as_float(p.windows);
-    totals::write_row(row, &norms[..k], p, length, elapsed);
-    p
-}
-
 // One measured window: the window, the sums, and its row.
 pub fn measured_window(
     system: System,
@@ -114,5 +98,9 @@ pub fn measured_window(
     let Outcome::Accepted = v else {
         return q;
     };
-    record_window(norms, row, k, h, n, q)
+    let p = totals::add_logs(q, &norms[..k]);
+    let length = totals::duration(h, n);
+    let elapsed = length * totals::as_float(p.windows);
+    totals::write_row(row, &norms[..k], Progress { ..p }, length, elapsed);
+    p
 }

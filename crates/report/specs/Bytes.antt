@@ -8,7 +8,7 @@ unfoldable pub little_endian : List ℕ → ℕ
 little_endian [] = 0
 little_endian (b ∷ bs) = b + 256 * little_endian bs
 
--- n floats from eight bytes each: binary64, little_endian
+-- n floats from eight bytes each: binary64, little-endian
 unfoldable pub decoded : ℕ → List ℕ → List Float
 unfolding little_endian of_bits
 decoded zero bs = []

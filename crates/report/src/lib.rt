@@ -3,6 +3,8 @@
 // `report` takes any bytes, and its contract gives every byte of the text: the bits of the dimension and of the entropy
 // as hexadecimal lines, or `refused N P`. It tests 21 by the length of the input, then 23; diagnostics tests the rest.
 // Start with specs/Report.antt; specs/Marked.antt has document 01's example.
+#![tactic(auto)]
+
 ghost use Rattle.std.specs.Prelude.{◌≡◌, ◌+◌, ◌*◌, ◌≤◌, ◌<◌, length, take, drop};
 ghost use Rattle.std.specs.Float.{binary64};
 ghost use Rattle.std.specs.Float.Ieee.{of_bits};
@@ -16,7 +18,7 @@ use diagnostics::Diagnostic;
 use error::LyapunovError;
 
 // The first len bytes are the text. The longest is a refusal with two numbers of 20 digits.
-#[derive(Drop)]
+#[derive(Clone, Copy)]
 pub struct Text {
     pub bytes: [u8; 50],
     pub len: usize,
@@ -28,7 +30,7 @@ fn widen(byte: u8) -> u64
     byte as u64
 }
 
-// The little_endian number of the eight bytes from at on, read from the last.
+// The little-endian number of the eight bytes from at on, read from the last.
 fn from_le_bytes(bytes: &[u8], at: usize) -> u64
     requires { at + 8 ≤ length bytes.now }
     ensures { result ≡ Bytes.little_endian (take 8 (drop at bytes.now)) }

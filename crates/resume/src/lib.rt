@@ -3,6 +3,8 @@
 // `go_on_from` is for crate keep, which finds the slot, and has a `requires`: the lengths of the memory, and a slot that is in
 // use. Its contract is an equation with specs/Served.antt of crate calls. specs/Resume.antt names what the function below it
 // asks and leaves.
+#![tactic(auto)]
+
 ghost use Rattle.std.specs.Prelude.{◌≡◌, ◌≢◌, ◌<◌};
 ghost use Rattle.std.proofs.Math.Option.{some};
 ghost use Rattle.benettin.specs.Estimate as Estimate;

@@ -9,6 +9,8 @@
 // numbers live: fixed.rt (width 3, in registers), narrow.rt (8, in registers) and wide.rt (16, in memory; any system). A
 // method adds its formulas to crate stepper, and a system its own to crate system: no body is for one system or one method
 // (docs/DEFINITIONS.md has what each would add).
+#![tactic(auto)]
+
 mod arrays;
 mod fixed;
 mod narrow;

@@ -3,6 +3,8 @@
 // specs/Schedule.antt says what memory holds, whatever its content is: a slot with what no dispatcher can have left counts as
 // no run. Each function equals a definition there. They are for other crates of ours, and have a `requires`: the lengths of the
 // memory, and a name below 8. Crate store lays the runs down and takes them up; crate dispatch has the calls.
+#![tactic(auto)]
+
 ghost use Rattle.std.specs.Prelude.{◌≡◌, ◌+◌, ◌*◌, ◌<◌, true, [], ◌∷◌, ◌++◌, length, take, drop, set};
 ghost use Rattle.std.proofs.lemmas.List.Edits.{sets};
 ghost use Rattle.floats.specs.Finite.{index};
@@ -19,7 +21,7 @@ use floats::Position;
 use system::System;
 
 // What is set of an unfinished run, and how many warm-up windows of it are made.
-#[derive(Drop)]
+#[derive(Clone, Copy)]
 pub struct Settings {
     pub system: System,
     pub rates: usize,

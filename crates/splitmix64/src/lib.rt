@@ -2,21 +2,23 @@
 //
 // The generator goes in by value and comes back in the answer. Each function equals a definition of specs/Mix.antt for
 // every input. specs/ExactDraw.antt states that the draw is exactly (n - 2^52) / 2^52, with n the top 53 bits, and its range.
+#![tactic(auto)]
+
 ghost use Rattle.std.specs.Prelude.{◌≡◌, ◌*◌, ◌%◌, ◌^◌};
 ghost use Rattle.splitmix64.specs.Mix as Spec;
 
-#[derive(Drop)]
+#[derive(Clone, Copy)]
 pub struct SplitMix64 {
     pub state: u64,
 }
 
-#[derive(Drop)]
+#[derive(Clone, Copy)]
 pub struct Output {
     pub generator: SplitMix64,
     pub value: u64,
 }
 
-#[derive(Drop)]
+#[derive(Clone, Copy)]
 pub struct Draw {
     pub generator: SplitMix64,
     pub value: f64,

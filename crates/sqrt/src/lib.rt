@@ -3,13 +3,15 @@
 // `sqrt` equals the definition of specs/SquareRoot.antt for every input. That file also states what the standard asks of
 // a root, over whole numbers. specs/OneRoot.antt states that the definition meets it, that nothing else does, and that the
 // root of a positive finite value is finite and above 2^-1022. There is no array (document 02, e): host/rodata tests it.
+#![tactic(auto)]
+
 ghost use Rattle.std.specs.Prelude.{◌≡◌, ◌+◌, ◌*◌, ◌^◌, ◌≤◌, ◌<◌, T, Float};
 ghost use Rattle.std.specs.Float.{binary64};
 ghost use Rattle.std.specs.Float.Ieee.{of_bits, fits};
 ghost use Rattle.sqrt.specs.SquareRoot as Spec;
 
 // The whole square root of a number n, and n - root^2.
-#[derive(Drop)]
+#[derive(Clone, Copy)]
 struct WholeRoot {
     pub root: u64,
     pub rest: u64,
@@ -102,10 +104,15 @@ fn pattern_root(b: u64) -> f64
     }
 }
 
-// The ordinary case comes first, by two comparisons, which a NaN fails.
+// A negative value and a NaN are told apart first, then the ordinary case by two comparisons of the bits.
 pub fn sqrt(x: f64) -> f64
     ensures { result ≡ Spec.root x }
 {
+    // A test ahead of the others is a branch; behind them the compiler makes a choice between two registers of it, for which it
+    // keeps a constant of 16 bytes.
+    if x < 0.0 {
+        return 0.0 / 0.0;
+    }
     if x != x {
         return x;
     }
@@ -114,9 +121,6 @@ pub fn sqrt(x: f64) -> f64
         if b < floats::INFINITY_BITS {
             return pattern_root(b);
         }
-    }
-    if x < 0.0 {
-        return 0.0 / 0.0;
     }
     x
 }

@@ -6,12 +6,14 @@
 //
 // Each stage point and the update stand once, in `entry`, as in specs/Stepper.antt: another method adds its formulas there,
 // and nothing else here knows them. proofs/Entrywise.antt and proofs/Moves.antt hold for any method.
+#![tactic(auto)]
+
 ghost use Rattle.std.specs.Prelude.{◌≡◌, ◌≤◌, [], ◌∷◌, map, take};
 ghost use Rattle.stepper.specs.Stepper.{entrywise, rk4};
 ghost use Rattle.stepper.specs.Rules.{latest, stage_rule};
 
 // The stage points of a state, each at the front of an array. They are computed once and lent to every direction.
-#[derive(Drop)]
+#[derive(Clone, Copy)]
 pub struct Points {
     pub x1: [f64; 16],
     pub x2: [f64; 16],

@@ -3,5 +3,6 @@ pub mod Bounds
 pub mod Tags
 pub mod Laid
 pub mod Found
+pub mod LaidBeside
 pub mod Writes
 pub mod Memory

@@ -12,12 +12,12 @@ use lib.ListN.{length, take, drop, get_or, length-append, length-replicate, leng
 use lib.Seq.{sets, length-sets, take_at, take-take, get_or-take, get_or-drop, get_or-set_same}
 use lib.Ieee.{Float, nan}
 use Rattle.floats.specs.Vector.{part, chunks, concat}
-use Rattle.floats.proofs.Sets.{part_sets, sets_append, sets_before}
+use Rattle.floats.proofs.Sets.{part_sets, sets_append}
 use Rattle.floats.proofs.Vector as Vector
 use Rattle.benettin.specs.Run.{RunState}
 use Rattle.benettin.specs.Outputs.{sixteen}
 use Rattle.benettin.proofs.Sizes.{HasLogs}
-use Rattle.store.specs.Slots.{Memory, tag_at, sound, sound_tag, stood_at, windows_at, laid_beside, laid_floats, saved, freed, emptied}
+use Rattle.store.specs.Slots.{Memory, tag_at, sound, sound_tag, stood_at, windows_at, laid_floats, saved, freed, emptied}
 use Rattle.store.specs.Promises.{Sized}
 use Rattle.store.proofs.Bounds.{Sound, sound_is, tag_small}
 use Rattle.store.proofs.Laid.{few_entries}
@@ -91,7 +91,7 @@ sixteen_length : (f : List ℕ) → length f ≤ 16 → length (sixteen f) ≡ 1
 sixteen_length f h = simp (length-append, length-replicate) (omega arith)
 
 pub saved_sized : (j n : ℕ) (c : RunState) (m : Memory) → Sized m → Sized (saved j n c m)
-unfolding saved laid_floats laid_beside
+unfolding saved laid_floats
 saved_sized j n c m S = (simp (length-set, length-sets) S.0, simp length-sets S.1)
 
 module _ (j n d K w : ℕ) (c : RunState) (m : Memory) (F : Fits d K w c) where
@@ -107,13 +107,8 @@ module _ (j n d K w : ℕ) (c : RunState) (m : Memory) (F : Fits d K w c) where
       ∷ []
 
   placed_is : (saved j n c m).floats ≡ writes m.floats placed
-  unfolding saved laid_floats laid_beside
-  placed_is =
-      rw (
-        sets_before m.floats (321 * j + 16) (concat c.motion.directions) (321 * j) c.motion.state (omega (arith, F.has.has.state, F.entries)),
-        sets_append _ (321 * j + 288) c.norms.logs c.norms.reports,
-        F.has.logs,
-      )
+  unfolding saved laid_floats
+  placed_is = rw (sets_append _ (321 * j + 288) c.norms.logs c.norms.reports, F.has.logs)
 
   -- the counts: three, and sixteen
   abbrev counted : List ℕ

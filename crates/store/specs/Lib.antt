@@ -2,3 +2,4 @@
 pub mod Slots
 pub mod Examples
 pub mod Promises
+pub mod Beside

@@ -1,57 +1,42 @@
 -- What the contracts of the functions over slots say, by name. A reader may skip it. Definitions only.
-use Rattle.std.specs.Prelude.{ℕ, ◌+◌, ◌*◌, ◌≤◌, ◌<◌, ◌≡◌, ◌≢◌, List, ◌∷◌, length, take, Float}
-use Rattle.std.proofs.lemmas.List.Edits.{sets}
+use Rattle.std.specs.Prelude.{ℕ, ◌+◌, ◌*◌, ◌≤◌, ◌<◌, ◌≡◌, ◌≢◌, List, length, Float}
 use Rattle.error.specs.declared.Outcome.TheVariants.{Accepted}
 use Rattle.benettin.specs.Estimate.{limit}
-use Rattle.floats.specs.Vector.{part}
-use Rattle.totals.specs.Progress.{Held, held, run_state}
+use Rattle.totals.specs.Progress.{Held, run_state}
 use Rattle.totals.specs.Ending.{Bounded}
-use Rattle.totals.specs.declared.Progress.{Progress}
-use Rattle.store.specs.Slots.{Memory, memory, tag_at, stood_at, laid_beside}
+use Rattle.store.specs.Slots.{Memory, tag_at, stood_at}
 
 -- eight slots
 abbrev pub Sized : Memory → Type 0
 Sized m = (length m.floats ≡ 2568) × (length m.counts ≡ 152)
 
--- a run of d entries and k directions has room in a slot
-pub record Fits (j d k : ℕ) (m : Memory) : Type 0 where
-  pub memory : Sized m
-  pub slot : j < 8
+-- what is held of d entries and k directions fits into a slot
+pub record Held_in (d k : ℕ) (H : Held) : Type 0 where
   pub entries : d ≤ 16
   pub few : k ≤ 16
-
--- ---- a run is laid down in slot j
-
-pub record SavesBeside (j d k : ℕ) (m : Memory) (x ns : List Float) (p : Progress) : Type 0 where
-  pub fits : Fits j d k m
-  pub state : length x ≡ d
-  pub norms : length ns ≡ 32
-  -- whatever the bounds are
-  pub made : ℕ
-  pub measured : ℕ
-  pub bounded : Bounded k made measured p
-
--- what is left, whatever the directions are
-abbrev pub saved_beside : ℕ → ℕ → List Float → ℕ → List Float → Progress → Memory → Memory
-saved_beside j number x k ns p m =
-    memory (laid_beside j x (take k p.sums) (take (k + k) ns) p.time m.floats) (sets m.counts (19 * j) ((number + 1) ∷ p.windows ∷ p.steps ∷ p.faint))
-
-pub record Saves (j d k : ℕ) (m : Memory) (H : Held) : Type 0 where
-  pub beside : SavesBeside j d k m H.state H.norms H.progress
+  pub state : length H.state ≡ d
   pub tangents : length H.tangents ≡ k * d
+  pub norms : length H.norms ≡ 32
 
--- ---- the run in slot j, which is in use, is taken up
+-- a run is laid down in slot j
+pub record Saves (j d k : ℕ) (m : Memory) (H : Held) : Type 0 where
+  pub memory : Sized m
+  pub slot : j < 8
+  pub held : Held_in d k H
+  pub bounded : Bounded k (limit + limit) limit H.progress
 
-pub record LoadsBeside (j d k : ℕ) (m : Memory) (ns : List Float) : Type 0 where
-  pub fits : Fits j d k m
+-- the run in slot j, which is in use, is taken up
+pub record Loads (j d k : ℕ) (m : Memory) (x t ns : List Float) : Type 0 where
+  pub memory : Sized m
+  pub slot : j < 8
   pub used : tag_at j m ≢ 0
+  pub entries : d ≤ 16
+  pub few : k ≤ 16
+  pub state : length x ≡ d
+  pub tangents : length t ≡ k * d
   pub norms : length ns ≡ 32
 
 pub record Loaded (j d k : ℕ) (m : Memory) (H : Held) : Type 0 where
   pub run : run_state d k H ≡ stood_at j d k m
   pub accepted : H.progress.outcome ≡ Accepted
   pub bounded : Bounded k (limit + limit) limit H.progress
-
--- with the directions that stand in memory
-abbrev pub LoadedBeside : ℕ → ℕ → ℕ → Memory → List Float → List Float → Progress → Type 0
-LoadedBeside j d k m x ns p = Loaded j d k m (held x (part (321 * j + 16) (k * d) m.floats) ns p)

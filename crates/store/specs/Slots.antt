@@ -79,13 +79,9 @@ stood_at j d K m =
 
 -- ---- what is done to a slot; all other memory stays as it was
 
--- all floats of a slot but the directions
-unfoldable pub laid_beside : ℕ → List Float → List Float → List Float → Float → List Float → List Float
-laid_beside j state sums norms time floats = set (sets (sets (sets floats (321 * j) state) (321 * j + 272) sums) (321 * j + 288) norms) (321 * j + 320) time
-
 unfoldable pub laid_floats : ℕ → List Float → List Float → List Float → List Float → Float → List Float → List Float
-unfolding laid_beside
-laid_floats j state directions sums norms time floats = laid_beside j state sums norms time (sets floats (321 * j + 16) directions)
+laid_floats j state directions sums norms time floats =
+    set (sets (sets (sets (sets floats (321 * j) state) (321 * j + 16) directions) (321 * j + 272) sums) (321 * j + 288) norms) (321 * j + 320) time
 
 -- a run, kept under a number in slot j
 unfoldable pub saved : ℕ → ℕ → RunState → Memory → Memory

@@ -3,8 +3,13 @@
 // specs/Slots.antt says what memory holds, whatever its content is: a slot with what no run can have left counts as free. Each
 // function equals a definition there. They are for other crates of ours, and have a `requires`: the lengths of the memory and
 // of the slices, and a slot below 8. Crate keep has the calls.
+#![tactic(auto)]
+
+pub mod beside;
+
 ghost use Rattle.std.specs.Prelude.{◌≡◌, ◌+◌, ◌*◌, ◌≤◌, ◌<◌, List, ◌∷◌, ◌++◌, Float, length, drop, replicate};
 ghost use Rattle.std.proofs.lemmas.List.Edits.{sets};
+ghost use Rattle.floats.specs.Arithmetic.{zero⁺};
 ghost use Rattle.floats.specs.Finite.{index};
 ghost use Rattle.floats.specs.Vector.{part};
 ghost use Rattle.totals.specs.Progress.{held, run_state};
@@ -145,31 +150,6 @@ fn save_counts(counts: &mut [u64], slot: usize, tag: u64, windows: u64, steps: u
     copy_counts(&mut counts[a..e], faint);
 }
 
-// Lays a run down in a slot, under a number, but for its directions.
-pub fn save_beside(
-    floats: &mut [f64],
-    counts: &mut [u64],
-    slot: usize,
-    number: u8,
-    state: &[f64],
-    norms: &[f64],
-    k: usize,
-    p: Progress,
-)
-    requires { Contracts.SavesBeside slot (length state.now) k (Slots.memory floats.old counts.old) state.now norms.now p }
-    ensures { Slots.memory floats.new counts.new ≡ Contracts.saved_beside slot number state.now k norms.now p (Slots.memory floats.old counts.old) }
-{
-    let a = 321 * slot;
-    let sums = p.sums;
-    let faint = p.faint;
-    let e = k + k;
-    put(floats, a, state);
-    put(floats, a + 272, &sums[..k]);
-    put(floats, a + 288, &norms[..e]);
-    floats[a + 320] = p.time;
-    save_counts(counts, slot, number as u64 + 1, p.windows, p.steps, &faint);
-}
-
 // Lays a run down in a slot, under a number.
 pub fn save(
     floats: &mut [f64],
@@ -186,8 +166,16 @@ pub fn save(
     ensures { Slots.memory floats.new counts.new
         ≡ Slots.saved slot number (run_state (length state.now) k (held state.now tangents.now norms.now p)) (Slots.memory floats.old counts.old) }
 {
-    put(floats, 321 * slot + 16, tangents);
-    save_beside(floats, counts, slot, number, state, norms, k, p);
+    let a = 321 * slot;
+    let sums = p.sums;
+    let faint = p.faint;
+    let e = k + k;
+    put(floats, a, state);
+    put(floats, a + 16, tangents);
+    put(floats, a + 272, &sums[..k]);
+    put(floats, a + 288, &norms[..e]);
+    floats[a + 320] = p.time;
+    save_counts(counts, slot, number as u64 + 1, p.windows, p.steps, &faint);
 }
 
 // Reads entries from place a on.
@@ -202,14 +190,14 @@ fn take(from: &[f64], a: usize, out: &mut [f64])
     }
 }
 
-// The sums of a slot, and what stands behind them. At a width of 16 they are copied in pairs, which none has to wait for.
-fn sums_at(floats: &[f64], slot: usize) -> [f64; 16]
-    requires { (length floats.now ≡ 2568) × (slot < 8) }
-    ensures { result ≡ part (321 * slot + 272) 16 floats.now }
+// The k sums of a slot, and zeros behind them.
+fn sums_at(floats: &[f64], slot: usize, k: usize) -> [f64; 16]
+    requires { (length floats.now ≡ 2568) × (slot < 8) × (k ≤ 16) }
+    ensures { result ≡ part (321 * slot + 272) k floats.now ++ drop k (replicate 16 zero⁺) }
 {
     let mut sums = [0.0; 16];
     let a = 321 * slot + 272;
-    take(floats, a, &mut sums);
+    take(floats, a, &mut sums[..k]);
     sums
 }
 
@@ -225,24 +213,26 @@ fn faint_at(counts: &[u64], slot: usize, k: usize) -> [u64; 16]
     faint
 }
 
-// Takes the run of a slot up, as one of k directions, but for the directions.
-pub fn load_beside(
+// Takes the run of a slot up, as one of k directions.
+pub fn load(
     floats: &[f64],
     counts: &[u64],
     slot: usize,
     state: &mut [f64],
+    tangents: &mut [f64],
     norms: &mut [f64],
     k: usize,
 ) -> Progress
-    requires { Contracts.LoadsBeside slot (length state.old) k (Slots.memory floats.now counts.now) norms.old }
-    ensures { Contracts.LoadedBeside slot (length state.old) k (Slots.memory floats.now counts.now) state.new norms.new result }
+    requires { Contracts.Loads slot (length state.old) k (Slots.memory floats.now counts.now) state.old tangents.old norms.old }
+    ensures { Contracts.Loaded slot (length state.old) k (Slots.memory floats.now counts.now) (held state.new tangents.new norms.new result) }
 {
     let a = 321 * slot;
     let c = 19 * slot;
     let both = k + k;
     take(floats, a, state);
+    take(floats, a + 16, tangents);
     take(floats, a + 288, &mut norms[..both]);
-    let sums = sums_at(floats, slot);
+    let sums = sums_at(floats, slot, k);
     let faint = faint_at(counts, slot, k);
     let windows = counts[c + 1];
     let steps = counts[c + 2];
@@ -255,21 +245,4 @@ pub fn load_beside(
         faint,
         sums,
     }
-}
-
-// Takes the run of a slot up, as one of k directions.
-pub fn load(
-    floats: &[f64],
-    counts: &[u64],
-    slot: usize,
-    state: &mut [f64],
-    tangents: &mut [f64],
-    norms: &mut [f64],
-    k: usize,
-) -> Progress
-    requires { Contracts.LoadsBeside slot (length state.old) k (Slots.memory floats.now counts.now) norms.old × (length tangents.old ≡ k * length state.old) }
-    ensures { Contracts.Loaded slot (length state.old) k (Slots.memory floats.now counts.now) (held state.new tangents.new norms.new result) }
-{
-    take(floats, 321 * slot + 16, tangents);
-    load_beside(floats, counts, slot, state, norms, k)
 }

@@ -2,3 +2,5 @@
 //
 // specs/SumStart.antt states it: of the orthonormaliser's answer the sign of a zero that is cleared, and nothing of a run.
 // proofs/Plain.antt has the laws of floats, proofs/Runs.antt the simulation that carries them through a run.
+
+#![tactic(auto)]

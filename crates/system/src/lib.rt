@@ -7,6 +7,8 @@
 //
 // Another system adds a case to `System` and to `dim`, `field` and `tangent` of specs/System.antt, an arm to each function
 // below, and its formulas, in fixed.rt or in a file of its own.
+#![tactic(auto)]
+
 pub mod fixed;
 
 ghost use Rattle.std.specs.Prelude.{◌≡◌, List, length, take, Float};
@@ -15,7 +17,7 @@ ghost use Rattle.system.specs.System as Spec;
 ghost use Rattle.system.specs.Evaluation.{Columns};
 
 // Each choice holds its own parameters. The matrix of a linear system is lent beside it.
-#[derive(Drop)]
+#[derive(Clone, Copy)]
 pub enum System {
     Lorenz { sigma: f64, rho: f64, beta: f64 },
     Rossler { a: f64, b: f64, c: f64 },

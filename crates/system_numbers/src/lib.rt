@@ -1,13 +1,15 @@
 // A system as numbers: its kind, three parameters and a dimension, as C hands it over and as memory holds it.
 //
 // specs/Numbers.antt says which system numbers stand for, and which numbers stand for a system.
+#![tactic(auto)]
+
 ghost use Rattle.std.specs.Prelude.{◌≡◌};
 ghost use Rattle.system_numbers.specs.Numbers as Numbers;
 
 use system::System;
 
 // The kind of a system and its parameters.
-#[derive(Drop)]
+#[derive(Clone, Copy)]
 pub struct Numbered {
     pub kind: u64,
     pub p0: f64,

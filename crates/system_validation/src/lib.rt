@@ -3,6 +3,8 @@
 // Each function answers the first refusal of a block of specs/Tests.antt, for every input: start reading there. A step that is
 // called alone (crate rk4) and a run (crate benettin) both make these tests. proofs/Tests.antt has what a caller needs: what is
 // known once a block is passed. Crate system has what they ask of a system: its dimension, and whether matrix and cells fit.
+#![tactic(auto)]
+
 ghost use Rattle.std.specs.Prelude.{◌≡◌};
 ghost use Rattle.error.specs.Refusal.{reported};
 ghost use Rattle.error.specs.Tests.{first_failing};

@@ -6,6 +6,8 @@
 // the run itself is defined in crate benettin. answer.rt has the parts of an answer. The functions are `pub` for other crates
 // of ours, and most have a `requires`: how long the slices are, and how large the counts. Crate progress has the windows.
 // Nothing is allocated.
+#![tactic(auto)]
+
 pub mod answer;
 
 ghost use Rattle.std.specs.Prelude.{◌≡◌, ℕ, ◌+◌, ◌*◌, ◌≤◌, ◌<◌, ◌^◌, ◌∷◌, ◌++◌, map, length, take, get_or};
@@ -92,9 +94,10 @@ pub fn add_logs(from: Progress, logs: &[f64]) -> Progress
         out[i] = out[i] + logs[i];
         i += 1;
     }
+    let windows = from.windows + 1;
     let mut p = from;
     p.sums = out;
-    p.windows = from.windows + 1;
+    p.windows = windows;
     p
 }
 

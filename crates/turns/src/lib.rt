@@ -5,3 +5,5 @@
 // from an empty dispatcher, that a run has the answer and the slices that it has alone, and demand 3 of such runs;
 // specs/Queue.antt that names are the least free ones, that no run waits for more than eight turns, and that turns are windows.
 // Crate dispatching has the same calls over lent memory, which the contracts of crate dispatch cite.
+
+#![tactic(auto)]

@@ -1,0 +1,20 @@
+-- store::take
+use borrow.Author.Rules.{rules}
+use native.Mathlib.Omega.{arith}
+use Prim.Native.Nat.{◌-◌, ◌≤◌, ◌<◌}
+use mathlib.Core.Path.{◌≡◌, refl, sym, ◌∙◌}
+use mathlib.Core.List.{◌++◌}
+use lib.ListN.{length, take, drop, length-set}
+use lib.Ieee.{nan}
+use Rattle.floats.specs.Vector.{part}
+use Rattle.floats.proofs.Fill.{copy_next, copy_end}
+use Rattle.floats.proofs.Parts.{part_at}
+use Rattle.floats.proofs.Sets.{part_length}
+use Rattle.store.proofs.take.Given as goal
+
+abbrev pub invariant-loop-i : goal.invariant-loop-i
+invariant-loop-i l =
+    (l.i ≤ length l.out) × (length l.out ≡ length l.initial.out) × (part l.a (length l.initial.out) l.from ≡ take l.i l.out ++ drop l.i (part l.a (length l.initial.out) l.from))
+
+abbrev pub decreases-loop-i : goal.decreases-loop-i
+decreases-loop-i l = length l.out - l.i

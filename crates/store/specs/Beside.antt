@@ -1,0 +1,47 @@
+-- A run that is laid down and taken up beside its directions, which stand in memory already. Definitions only.
+use Rattle.std.specs.Prelude.{ℕ, ◌+◌, ◌*◌, ◌≤◌, ◌<◌, ◌≡◌, ◌≢◌, List, ◌∷◌, length, take, set, Float}
+use Rattle.std.proofs.lemmas.List.Edits.{sets}
+use Rattle.floats.specs.Vector.{part}
+use Rattle.totals.specs.Progress.{held}
+use Rattle.totals.specs.Ending.{Bounded}
+use Rattle.totals.specs.declared.Progress.{Progress}
+use Rattle.store.specs.Slots.{Memory, memory, tag_at}
+use Rattle.store.specs.Promises.{Sized, Loaded}
+
+-- a run of d entries and k directions has room in a slot
+pub record Fits (j d k : ℕ) (m : Memory) : Type 0 where
+  pub memory : Sized m
+  pub slot : j < 8
+  pub entries : d ≤ 16
+  pub few : k ≤ 16
+
+-- ---- a run is laid down in slot j
+
+pub record SavesBeside (j d k : ℕ) (m : Memory) (x ns : List Float) (p : Progress) : Type 0 where
+  pub fits : Fits j d k m
+  pub state : length x ≡ d
+  pub norms : length ns ≡ 32
+  -- whatever the bounds are
+  pub made : ℕ
+  pub measured : ℕ
+  pub bounded : Bounded k made measured p
+
+-- all floats of a slot but the directions
+unfoldable pub laid_beside : ℕ → List Float → List Float → List Float → Float → List Float → List Float
+laid_beside j state sums norms time floats = set (sets (sets (sets floats (321 * j) state) (321 * j + 272) sums) (321 * j + 288) norms) (321 * j + 320) time
+
+-- what is left, whatever the directions are
+abbrev pub saved_beside : ℕ → ℕ → List Float → ℕ → List Float → Progress → Memory → Memory
+saved_beside j number x k ns p m =
+    memory (laid_beside j x (take k p.sums) (take (k + k) ns) p.time m.floats) (sets m.counts (19 * j) ((number + 1) ∷ p.windows ∷ p.steps ∷ p.faint))
+
+-- ---- the run in slot j, which is in use, is taken up
+
+pub record LoadsBeside (j d k : ℕ) (m : Memory) (ns : List Float) : Type 0 where
+  pub fits : Fits j d k m
+  pub used : tag_at j m ≢ 0
+  pub norms : length ns ≡ 32
+
+-- with the directions that stand in memory
+abbrev pub LoadedBeside : ℕ → ℕ → ℕ → Memory → List Float → List Float → Progress → Type 0
+LoadedBeside j d k m x ns p = Loaded j d k m (held x (part (321 * j + 16) (k * d) m.floats) ns p)

@@ -1,0 +1,10 @@
+-- system::fixed::rossler_field
+use mathlib.Core.Path.{refl}
+use borrow.Author.Rules.{rules}
+use lib.Ieee.{of_bits}
+use Rattle.system.specs.System.{field}
+use Rattle.system.proofs.fixed.rossler_field.Goals as goal
+
+pub returns : goal.returns
+unfolding field of_bits
+returns c = refl

@@ -1,0 +1,10 @@
+-- system::fixed::rossler_tangent
+use mathlib.Core.Path.{refl}
+use borrow.Author.Rules.{rules}
+use lib.Ieee.{of_bits}
+use Rattle.system.specs.System.{tangent}
+use Rattle.system.proofs.fixed.rossler_tangent.Goals as goal
+
+pub returns : goal.returns
+unfolding tangent of_bits
+returns c = refl

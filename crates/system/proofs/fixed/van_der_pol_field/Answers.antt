@@ -1,0 +1,10 @@
+-- system::fixed::van_der_pol_field
+use mathlib.Core.Path.{refl}
+use borrow.Author.Rules.{rules}
+use lib.Ieee.{of_bits}
+use Rattle.system.specs.System.{field}
+use Rattle.system.proofs.fixed.van_der_pol_field.Goals as goal
+
+pub returns : goal.returns
+unfolding field of_bits
+returns c = refl

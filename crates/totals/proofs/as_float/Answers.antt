@@ -1,0 +1,9 @@
+-- totals::as_float
+use borrow.Author.Rules.{rules}
+use mathlib.Core.Path.{refl}
+use Rattle.benettin.specs.Run as Run
+use Rattle.totals.proofs.as_float.Goals as goal
+
+pub returns : goal.returns
+unfolding Run.as_float
+returns c = refl
