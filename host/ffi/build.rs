@@ -1,4 +1,4 @@
-//! Builds and links the static library: `rt staticlib lyapunov`, run in the project's root.
+//! Builds and links the static library: `rt lib`, run in the folder of crate lyapunov.
 //! Where the variable LYAPUNOV_ARCHIVE names an archive, that one is linked instead. The
 //! declarations of its functions are those of the header.
 
@@ -18,7 +18,7 @@ fn main() {
         None => built_archive(&root),
     };
     // A copy has the name that the linker looks for, whatever the archive is called, and it is
-    // still there when the project's target/ is removed.
+    // still there when the crate's out/ is removed.
     let out = PathBuf::from(env::var_os("OUT_DIR").expect("cargo sets it"));
     fs::copy(&archive, out.join("liblyapunov.a"))
         .unwrap_or_else(|error| panic!("{}: {error}", archive.display()));
@@ -36,21 +36,30 @@ fn given_archive(path: PathBuf) -> PathBuf {
 }
 
 fn built_archive(root: &Path) -> PathBuf {
-    for sources in ["crates", "crates.txt"] {
-        println!("cargo:rerun-if-changed={}", root.join(sources).display());
+    println!("cargo:rerun-if-changed={}", root.join("crates.txt").display());
+    // Not a crate's out/, which each build writes.
+    for entry in fs::read_dir(root.join("crates")).expect("the crates") {
+        let folder = entry.expect("a crate's folder").path();
+        for part in ["src", "specs", "proofs"] {
+            // To a path that is not there Cargo would answer with a new build each time.
+            if folder.join(part).exists() {
+                println!("cargo:rerun-if-changed={}", folder.join(part).display());
+            }
+        }
     }
+    let folder = root.join("crates/lyapunov");
     let output = Command::new("rt")
-        .args(["staticlib", "lyapunov"])
-        .current_dir(root)
+        .arg("lib")
+        .current_dir(&folder)
         .output()
         .expect("rt, the toolchain's command, on the search path");
     if !output.status.success() {
         // Cargo shows what a failed build script writes.
         eprintln!("{}", String::from_utf8_lossy(&output.stdout));
         eprintln!("{}", String::from_utf8_lossy(&output.stderr));
-        panic!("rt staticlib lyapunov: {}", output.status);
+        panic!("rt lib: {}", output.status);
     }
-    root.join("target/staticlib/liblyapunov.a")
+    folder.join("out/liblyapunov.a")
 }
 
 /// The types that an exported function answers.

@@ -34,6 +34,8 @@ fn is_attribute_or_index(before: &[&Token]) -> bool {
     };
     match &last.kind {
         Kind::Word(word) => !KEYWORDS.contains(&word.as_str()),
+        // An attribute of a whole file begins with `#!`.
+        Kind::Sign('!') => before.iter().rev().nth(1).is_some_and(|sign| sign.is_sign('#')),
         Kind::Sign(sign) => ['#', ')', ']'].contains(sign),
         _ => false,
     }
@@ -113,6 +115,7 @@ mod tests {
     #[test]
     fn what_is_no_array() {
         let text = "
+            #![tactic(auto)]
             ghost use mathlib.Core.List.{[], _∷_};
             #[no_mangle]
             pub fn first<'a>(xs: &[f64], ys: &mut [u64], i: usize) -> f64
@@ -133,6 +136,7 @@ mod tests {
             "f(&mut [l1])",
             "f(&[0.5])",
             "return [x];",
+            "if ![x][0] {}",
             "fn f(x: [f64; 3]) {}",
             "fn f(x: &[f64; 3]) {}",
             "b\"table\"",

@@ -1,11 +1,12 @@
 //! Calls of a store, which keeps states under numbers.
 
-use super::{Case, Listed, Outcome, Run};
+use super::{Case, Outcome, Run};
 use crate::lent::{Lent, FILLING};
 use crate::line::Fields;
 use crate::values::Answer;
 use input::Refusal;
 use lyapunov_sys::{StoreMut, StoreRef, STORE_COUNTS, STORE_FLOATS, STORE_STATES};
+use model::Input;
 use oracle::Source;
 
 /// A call of a store.
@@ -17,12 +18,10 @@ pub enum Call {
     Forget(u8),
 }
 
-impl Listed for Call {
-    const KINDS: [&'static str; 4] = ["empty", "keep", "go-on", "forget"];
+impl Call {
+    pub const KINDS: [&'static str; 4] = ["empty", "keep", "go-on", "forget"];
 
-    type Memory = Memory;
-
-    fn kind(&self) -> &'static str {
+    pub fn kind(&self) -> &'static str {
         Self::KINDS[match self {
             Self::Empty => 0,
             Self::Keep(..) => 1,
@@ -31,7 +30,8 @@ impl Listed for Call {
         }]
     }
 
-    fn answer(&self) -> &'static [&'static str] {
+    /// The fields of its answer, in their order.
+    pub fn answer(&self) -> &'static [&'static str] {
         match self {
             Self::Empty => &[],
             Self::Keep(..) | Self::GoOn(..) => Run::ANSWER,
@@ -39,7 +39,7 @@ impl Listed for Call {
         }
     }
 
-    fn read(kind: &str, fields: &mut Fields) -> Result<Self, String> {
+    pub fn read(kind: &str, fields: &mut Fields) -> Result<Self, String> {
         if kind == Self::KINDS[0] {
             return Ok(Self::Empty);
         }
@@ -54,7 +54,8 @@ impl Listed for Call {
         }
     }
 
-    fn written(&self) -> String {
+    /// What is handed in, as it stands in a line.
+    pub fn written(&self) -> String {
         match self {
             Self::Empty => String::new(),
             Self::Keep(number, run) | Self::GoOn(number, run) => {
@@ -64,8 +65,9 @@ impl Listed for Call {
         }
     }
 
-    fn library(&self, memory: &mut Memory) -> Result<Answer, String> {
-        memory.answer(self)
+    /// A line of a list of cases.
+    pub fn line(&self, id: &str, answer: &Answer, remark: &str) -> String {
+        super::line(self.kind(), id, &self.written(), answer, remark)
     }
 }
 
@@ -99,8 +101,7 @@ impl Reference {
     /// The source has no 27.
     fn keep(&mut self, number: u8, run: &Run, source: Option<&dyn Source>) -> Option<Answers> {
         let store = &mut self.store;
-        let model =
-            run.answer_of_model(|outputs| Some(store.keep(number, run.input(), outputs)))?;
+        let model = run.answer_of_model(|outputs| Some(store.keep(number, input(run), outputs)))?;
         let source = source.filter(|_| model.number() != 27);
         let source = source.and_then(|source| run.source(source));
         Some((model, source))
@@ -109,10 +110,19 @@ impl Reference {
     /// The source has no 26. It makes the windows that were kept and those to come in one run.
     fn go_on(&self, number: u8, run: &Run, source: Option<&dyn Source>) -> Option<Answers> {
         let store = &self.store;
-        let model = run.answer_of_model(|outputs| store.go_on(number, run.input(), outputs))?;
+        let model = run.answer_of_model(|outputs| store.go_on(number, input(run), outputs))?;
         let known = source.zip(store.windows(number));
         let source = known.and_then(|(source, earlier)| run.later_by_source(source, earlier));
         Some((model, source))
+    }
+}
+
+fn input(run: &Run) -> Input<'_> {
+    Input {
+        system: &run.circuit.system,
+        time: run.time,
+        state: &run.state,
+        settings: &run.settings,
     }
 }
 
