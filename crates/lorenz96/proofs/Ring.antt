@@ -1,7 +1,6 @@
 -- A ring of n cells: the list of its entries, a cell with the two before it, and the loops over the cells.
-use Prim.Native.Nat.{ℕ, zero, suc, ◌+◌, ◌-◌, ◌%◌, ◌≤◌, ◌<◌}
+use Prim.Native.Nat.{ℕ, zero, suc, ◌+◌, ◌%◌, ◌≤◌, ◌<◌}
 use native.Mathlib.Nat.{not-suc-le-zero, le_of_suc-le-suc, zero-add, add-zero, mod-lt, mod-eq_of_lt, mod_self, add-mod_right}
-use native.Mathlib.Decide.{dec_lt}
 use native.Mathlib.Omega.{arith}
 use mathlib.Core.Path.{◌≡◌, refl, sym, ap, ◌∙◌, fun_ext}
 use mathlib.Core.List.{List}
@@ -10,7 +9,7 @@ use lib.ListN.{length, take, get_or, set, length-set}
 use lib.Seq.{get_or-take, get_or-set_same, get_or-set_other, ext_get_or, length-take-le}
 use lib.Ieee.{Float, nan}
 use Rattle.lorenz96.specs.Ring.{ring, from, cell_field, cell_tangent, ring_field, ring_tangent}
-use Rattle.lorenz96.specs.Around.{Cells, Around, Following}
+use Rattle.lorenz96.specs.Around.{Around, Following}
 use Rattle.lorenz96.specs.declared.Pair.{Pair}
 use Rattle.lorenz96.specs.declared.Stencil.{Stencil}
 
@@ -35,10 +34,22 @@ module _ (f : ℕ → Float) where
   pub written_next : (i : ℕ) (o : List Float) (v : Float) → i < length o → v ≡ f i → Written i o → Written (i + 1) (set o i v)
   written_next i o v h e w = below_more _ i (λ k l. get_or-set_other o i k v nan (λ z. absurd (omega arith)) ∙ w k l) (get_or-set_same o i v nan h ∙ e)
 
-  pub written_all : (n i : ℕ) (o : List Float) → n ≤ i → n ≤ length o → Written i o → take n o ≡ from f 0 n
-  written_all n i o h g w =
+  pub written_two : (i j : ℕ) (o : List Float) {v w : Float} → i + 1 < length o → j ≡ i + 2 → v ≡ f i → w ≡ f (i + 1) → Written i o → Written j (set (set o i v) (i + 1) w)
+  written_two i j o {v} {w} h z e d g =
+      let m : length (set o i v) ≡ length o = length-set o i v in
+      let t : j ≡ i + 1 + 1 = omega arith in
+      rw t (written_next (i + 1) (set o i v) w (omega arith) d (written_next i o v (omega arith) e g))
+
+  pub written_all : {n : ℕ} (i : ℕ) (o : List Float) → n ≤ i → n ≤ length o → Written i o → take n o ≡ from f 0 n
+  written_all {n} i o h g w =
       let l : length (take n o) ≡ n = length-take-le n o g in
       ext_get_or nan (take n o) (from f 0 n) (l ∙ sym (from_length 0 n)) (λ k t. get_or-take n o k nan (omega arith) ∙ w k (omega arith) ∙ sym (from_at 0 n k (omega arith) ∙ ap f (zero-add k)))
+
+  -- one more, the last, at place k
+  pub written_last : {n k : ℕ} (i : ℕ) (o : List Float) {v : Float} → i + 1 ≡ n → k ≡ i → n ≤ length o → v ≡ f i → Written i o → take n (set o k v) ≡ from f 0 n
+  written_last i o {v} h z g e w =
+      let m : length (set o i v) ≡ length o = length-set o i v in
+      rw z (written_all (i + 1) (set o i v) (omega arith) (omega arith) (written_next i o v (omega arith) e w))
 
 -- ---- the vector field and the tangent map: their lengths, and that only the first n entries of a vector count
 
@@ -89,14 +100,6 @@ module _ (n : ℕ) (v : List Float) where
   pub last_after : (i : ℕ) → i < n → n ≤ i + 1 → get_or v 0 nan ≡ ring n v (i + 1)
   last_after i h l = let e : i + 1 ≡ n = omega arith in sym (ap (λ (j : ℕ). get_or v j nan) (ap (λ (j : ℕ). j % n) e ∙ mod_self n))
 
-  pub around_first : (s : Stencil) → Cells n → s.two_before ≡ get_or v (n - 2) nan → s.before ≡ get_or v (n - 1) nan → s.own ≡ get_or v 0 nan → Around n v 0 s
-  around_first s q e f g =
-      record {
-        two_before = e ∙ sym (ap (ring n v) (omega arith) ∙ inside (n - 2) (omega (arith, q.enough)));
-        before = f ∙ sym (ap (ring n v) (omega arith) ∙ inside (n - 1) (omega (arith, q.enough)));
-        own = g ∙ sym (inside 0 (omega (arith, q.enough)));
-      }
-
   pub around_next : (i : ℕ) (s : Stencil) (after : Float) → 0 < n → Around n v i s → after ≡ ring n v (i + 1) → Around n v (i + 1) (record { two_before = s.before; before = s.own; own = after })
   around_next i s after h a e =
       record {
@@ -113,13 +116,10 @@ pub record At (n : ℕ) (v : List Float) (i : ℕ) (s : Stencil) (after : Float)
   pub next : i + 1 < n → after ≡ ring n v (i + 1)
 
 module _ {n : ℕ} {v : List Float} where
-  pub at_first : {s : Stencil} → Around n v 0 s → At n v 0 s (get_or v 1 nan)
-  at_first a = record { around = a; next = λ h. sym (inside n v 1 h) }
+  pub at_second : {i j : ℕ} {p : Pair} {s : Stencil} → j ≡ i + 2 → Following n v i p → Around n v (i + 1 + 1) s → At n v j s p.second
+  at_second {i} z f a = let e : i + 1 + 1 ≡ i + 2 = omega arith in record { around = rw (z, ← e) a; next = rw z f.second }
 
-  pub at_second : {i : ℕ} {p : Pair} {s : Stencil} → Following n v i p → Around n v (i + 1 + 1) s → At n v (i + 2) s p.second
-  at_second {i} f a = let e : i + 1 + 1 ≡ i + 2 = omega arith in record { around = rw e at a; next = f.second }
-
--- the pair is loaded from place k, which is within the array
+-- the pair is loaded from place k
 module _ (n : ℕ) (v : List Float) (i k : ℕ) (w : k ≡ (i + 2) % n) (h : i + 1 < n) where
   pub following : Following n v i (record { first = get_or v k nan; second = get_or v (k + 1) nan })
   following =
@@ -127,40 +127,3 @@ module _ (n : ℕ) (v : List Float) (i k : ℕ) (w : k ≡ (i + 2) % n) (h : i +
         first = ap (λ (l : ℕ). get_or v l nan) (w ∙ ap (λ (j : ℕ). j % n) (omega arith));
         second = λ l. let f : k ≡ i + 2 = w ∙ mod-eq_of_lt (omega arith) in ap (λ (j : ℕ). get_or v j nan) (omega arith) ∙ sym (inside n v (i + 2 + 1) l);
       }
-
-  pub pair_within : Cells n → i % 2 ≡ 0 → k + 1 < 16
-  pair_within q e = go (dec_lt (i + 2) n)
-    where
-      go : Dec (i + 2 < n) → k + 1 < 16
-      go (yes l) = let f : k ≡ i + 2 = w ∙ mod-eq_of_lt l in omega (arith, q.within)
-      go (no l) = let f : i + 2 ≡ n = omega arith in let z : k ≡ 0 = w ∙ ap (λ (j : ℕ). j % n) f ∙ mod_self n in omega arith
-
--- the first i entries are written, two at a time
-pub record Going (n : ℕ) (f : ℕ → Float) (i : ℕ) (o : List Float) : Type 0 where
-  pub cells : Cells n
-  pub within : i ≤ n
-  pub even : i % 2 ≡ 0
-  pub sized : length o ≡ 16
-  pub written : Written f i o
-
-pub going_first : {n : ℕ} {f : ℕ → Float} {o : List Float} → Cells n → length o ≡ 16 → Going n f 0 o
-going_first q e = record { cells = q; within = omega arith; even = refl; sized = e; written = λ k h. absurd (omega arith) }
-
-module _ {n : ℕ} {f : ℕ → Float} {i : ℕ} {o : List Float} (g : Going n f i o) where
-  pub going_next : {a b : Float} → i + 1 < n → a ≡ f i → b ≡ f (i + 1) → Going n f (i + 2) (set (set o i a) (i + 1) b)
-  going_next {a} {b} h e d =
-      let l = g.sized in
-      let m : length (set o i a) ≡ 16 = length-set o i a ∙ l in
-      let w = written_next f i o a (omega (arith, g.cells.within)) e g.written in
-      let x = written_next f (i + 1) (set o i a) b (omega (arith, g.cells.within)) d w in
-      let t : i + 1 + 1 ≡ i + 2 = omega arith in
-      record { cells = g.cells; within = omega arith; even = omega (arith, g.even); sized = length-set (set o i a) (i + 1) b ∙ m; written = rw t at x }
-
-  -- behind the pairs: an even ring is written, and an odd one has a last cell
-  pub going_all : n ≤ i → take n o ≡ from f 0 n
-  going_all h = written_all f n i o h (omega (arith, g.sized, g.cells.within)) g.written
-
-  pub going_last : {a : Float} → i < n → n ≤ i + 1 → a ≡ f i → take n (set o i a) ≡ from f 0 n
-  going_last {a} h l e =
-      let m : length (set o i a) ≡ 16 = length-set o i a ∙ g.sized in
-      written_all f n (i + 1) (set o i a) l (omega (arith, g.cells.within)) (written_next f i o a (omega (arith, g.sized, g.cells.within)) e g.written)

@@ -101,18 +101,17 @@ pub fn vector_field(cells: usize, forcing: f64, x: &[f64; 16], out: &mut [f64; 1
     }
     let mut s = first_stencil(x, cells);
     let mut after = x[1];
-    let mut i = 0usize;
-    while i + 1 < cells {
+    for pair in 0..cells / 2 {
+        let i = 2 * pair;
         let next = next_pair(x, cells, i);
         let middle = shifted(s, after);
         out[i] = cell_field(s, after, forcing);
         out[i + 1] = cell_field(middle, next.first, forcing);
         s = shifted(middle, next.first);
         after = next.second;
-        i += 2;
     }
-    if i < cells {
-        out[i] = cell_field(s, x[0], forcing);
+    if cells % 2 == 1 {
+        out[cells - 1] = cell_field(s, x[0], forcing);
     }
 }
 
@@ -132,8 +131,8 @@ pub fn jacobian_vector_product(cells: usize, x: &[f64; 16], t: &[f64; 16], out: 
     let mut s_after = x[1];
     let mut u = first_stencil(t, cells);
     let mut u_after = t[1];
-    let mut i = 0usize;
-    while i + 1 < cells {
+    for pair in 0..cells / 2 {
+        let i = 2 * pair;
         let next = next_pair(x, cells, i);
         let along = next_pair(t, cells, i);
         let s1 = shifted(s, s_after);
@@ -144,9 +143,8 @@ pub fn jacobian_vector_product(cells: usize, x: &[f64; 16], t: &[f64; 16], out: 
         u = shifted(u1, along.first);
         s_after = next.second;
         u_after = along.second;
-        i += 2;
     }
-    if i < cells {
-        out[i] = cell_tangent(s, x[0], u, t[0]);
+    if cells % 2 == 1 {
+        out[cells - 1] = cell_tangent(s, x[0], u, t[0]);
     }
 }

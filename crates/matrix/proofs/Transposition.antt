@@ -1,17 +1,16 @@
--- A matrix by columns of w entries: the places, the rows as they are put, and the sums of all rows, a column at a time.
+-- A matrix by columns of w entries: the places, a row as it is put, and the sums of all rows, a column at a time.
 use Prim.Native.Nat.{ℕ, ◌+◌, ◌*◌, ◌%◌, ◌≤◌, ◌<◌}
 use native.Mathlib.Nat.{mul-suc, mul-le-mul_left, mod-eq_of_lt, mul-add-mod_self_left}
 use native.Mathlib.Omega.{arith}
 use mathlib.Core.Path.{◌≡◌, sym, ap, ◌∙◌}
 use mathlib.Core.List.{List}
 use borrow.Author.Count.{below_more}
-use lib.ListN.{length, take, drop, get_or, set, replicate, get_or-replicate}
+use lib.ListN.{length, take, drop, get_or, set}
 use lib.Seq.{get_or-set_same, get_or-set_other}
 use lib.Ieee.{Float, nan}
 use Rattle.floats.specs.Arithmetic.{◌⊕◌, ◌⊗◌}
 use Rattle.floats.specs.Vector.{dot_from, part, chunks}
 use Rattle.floats.proofs.Vector.{vector_fits}
-use Rattle.floats.proofs.Parts.{lent_length, part_at}
 use Rattle.matrix.specs.Matrix.{row_start, times, Transposed}
 use Rattle.matrix.proofs.Times.{row_next, row_end, times_front, times_few}
 
@@ -49,31 +48,6 @@ module _ (w i j : ℕ) (c : List Float) (v : Float) (h : i < w) where
 abbrev pub Rows : ℕ → ℕ → List Float → ℕ → List Float → Type 0
 Rows w d m i c = (r : ℕ) → r < i → (j : ℕ) → j < d → get_or c (w * j + r) nan ≡ get_or m (r * d + j) nan
 
--- one more, whose k entries were lent from i * d on
-pub rows_next : (w d : ℕ) (m : List Float) (i k : ℕ) (o c : List Float) → i < w → k ≡ d → i * d + d ≤ length m
-    → Put w i (part (i * d) k m) (length (part (i * d) k m)) c → Kept w i o c → Rows w d m i o → Rows w d m (i + 1) c
-rows_next w d m i k o c h f g p q e =
-    let n : length (part (i * d) k m) ≡ d = lent_length (i * d) d k m f g in
-    below_more _ i (λ r l j t. q r j (omega arith) (λ z. absurd (omega arith)) ∙ e r l j t) (λ j t. p j (omega arith) ∙ part_at (i * d) k m j (omega arith))
-
--- ---- one column from place a on, times x
-
--- the first i sums in o have taken their product
-abbrev pub Taken : List Float → ℕ → Float → List Float → ℕ → List Float → Type 0
-Taken columns a x s i o = (k : ℕ) → k < i → get_or o k nan ≡ get_or s k nan ⊕ get_or columns (a + k) nan ⊗ x
-
--- the others are as in s
-abbrev pub Waiting : List Float → ℕ → List Float → Type 0
-Waiting s i o = (k : ℕ) → i ≤ k → get_or o k nan ≡ get_or s k nan
-
-module _ (s : List Float) (i : ℕ) (o : List Float) (v : Float) (f : Waiting s i o) where
-  pub taken_next : (columns : List Float) (a : ℕ) (x : Float) → v ≡ get_or o i nan ⊕ get_or columns (a + i) nan ⊗ x → i < length o → Taken columns a x s i o
-      → Taken columns a x s (i + 1) (set o i v)
-  taken_next columns a x g h e = below_more _ i (λ k l. get_or-set_other o i k v nan (λ z. absurd (omega arith)) ∙ e k l) (get_or-set_same o i v nan h ∙ g ∙ rw (f i (omega arith)))
-
-  pub waiting_next : Waiting s (i + 1) (set o i v)
-  waiting_next k l = get_or-set_other o i k v nan (λ z. absurd (omega arith)) ∙ f k (omega arith)
-
 -- ---- the sums of all rows after j columns: a row's whole sum takes what is still to come
 
 module _ (w d : ℕ) (columns x : List Float) where
@@ -81,9 +55,6 @@ module _ (w d : ℕ) (columns x : List Float) where
   Summed j sums =
       (m : List Float) → length m ≡ d * d → Transposed w d m columns → (i : ℕ) → i < d
       → dot_from row_start (part (i * d) d m) x ≡ dot_from (get_or sums i nan) (drop j (part (i * d) d m)) (drop j x)
-
-  pub summed_none : (n : ℕ) → d ≤ n → Summed 0 (replicate n row_start)
-  summed_none n h m e t i g = rw (get_or-replicate n i row_start nan (omega arith))
 
   module _ (j : ℕ) (sums : List Float) (e : Summed j sums) where
     pub summed_next : (next : List Float) → d ≤ w → d ≤ length x → j < d

@@ -1,5 +1,5 @@
 -- Laws, one subject a file.
-pub mod FourStages
+pub mod Held
 pub mod Advance
 pub mod Directions
 pub mod Copy

@@ -1,5 +1,6 @@
 -- How the code holds a step; a reader may skip this. Definitions only.
-use Rattle.std.specs.Prelude.{ℕ, ◌≡◌, List, [], ◌∷◌, map, take, Float}
+use Rattle.std.specs.Prelude.{ℕ, ◌≡◌, List, [], ◌∷◌, map, length, take, Float}
+use Rattle.std.specs.Borrow.{MutBor}
 use Rattle.floats.specs.Finite.{first_not_finite}
 use Rattle.floats.specs.Vector.{chunks, concat}
 use Rattle.stepper.specs.Stepper.{stage_points, rk4}
@@ -27,3 +28,7 @@ pub record Advances (S : System) (m : List Float) (h : Float) (x t : List Float)
 -- what a step leaves in the two slices, with the answer that they call for
 abbrev pub tested_finite : List Float → List Float → Stepped
 tested_finite y vs = record { refusal = not_finite (first_not_finite y) (first_not_finite vs); state = y; tangents = vs }
+
+-- a call replaces a lent vector of d entries by its image under G; v and w lend it before and after
+abbrev pub Computes : ℕ → (List Float → List Float) → (MutBor (List Float) → Unit {0} → MutBor (List Float) → Type 0) → Type 0
+Computes d G post = (v w : MutBor (List Float)) → length v.now ≡ d → post v tt w → w.now ≡ G v.now

@@ -1,35 +1,34 @@
-// Vectors in arrays of 16. `zero_padded` and `copy_front` are for arrays in registers: the width is a literal at each call, so
-// that the loop unrolls. `load` and `store` are for arrays in memory: they copy pairs, which stay whole between two loops.
-ghost use Rattle.std.specs.Prelude.{◌≡◌, ◌≤◌, ◌++◌, length, take, drop};
+// Vectors in arrays of 16, and vectors that lie one after the other in a slice. `zero_padded` and `copy_front` are for arrays in
+// registers: the width is known where they are compiled, so that the loop unrolls. `load` and `store` are for arrays in memory:
+// they copy pairs, which stay whole between two loops.
+ghost use Rattle.std.specs.Prelude.{◌≡◌, ◌*◌, ◌≤◌, ◌++◌, List, map, length, take, drop, Float};
+ghost use Rattle.floats.specs.Vector.{chunks, concat};
 ghost use Rattle.system.specs.Array.{in16};
+ghost use Rattle.rk4.specs.Stages.{Computes};
 
-// The first `width` floats of a slice as an array, with zeros behind them.
-pub fn zero_padded(s: &[f64], width: usize) -> [f64; 16]
-    requires { width ≤ 16 }
-    ensures { result ≡ in16 (take width s.now) }
+// The first `WIDTH` floats of a slice as an array, with zeros behind them.
+pub fn zero_padded<const WIDTH: usize>(s: &[f64]) -> [f64; 16]
+    requires { WIDTH ≤ 16 }
+    ensures { result ≡ in16 (take WIDTH s.now) }
 {
     let mut out = [0.0; 16];
-    let mut i = 0usize;
-    while i < width {
+    for i in 0..WIDTH {
         if i < s.len() {
             out[i] = s[i];
         }
-        i += 1;
     }
     out
 }
 
-// The first `width` floats of an array into a slice, as far as it goes.
-pub fn copy_front(out: &mut [f64], from: [f64; 16], width: usize)
-    requires { width ≤ 16 }
-    ensures { out.new ≡ take width (take (length out.old) from) ++ drop width out.old }
+// The first `WIDTH` floats of an array into a slice, as far as it goes.
+pub fn copy_front<const WIDTH: usize>(out: &mut [f64], from: [f64; 16])
+    requires { WIDTH ≤ 16 }
+    ensures { out.new ≡ take WIDTH (take (length out.old) from) ++ drop WIDTH out.old }
 {
-    let mut i = 0usize;
-    while i < width {
+    for i in 0..WIDTH {
         if i < out.len() {
             out[i] = from[i];
         }
-        i += 1;
     }
 }
 
@@ -39,14 +38,13 @@ pub fn load(out: &mut [f64; 16], v: &[f64])
     ensures { (length out.new ≡ 16) × (out.new ≡ v.now ++ drop (length v.now) out.old) }
 {
     let n = v.len();
-    let mut i = 0usize;
-    while i + 1 < n {
+    for pair in 0..n / 2 {
+        let i = 2 * pair;
         out[i] = v[i];
         out[i + 1] = v[i + 1];
-        i += 2;
     }
-    if i < n {
-        out[i] = v[i];
+    if n % 2 == 1 {
+        out[n - 1] = v[n - 1];
     }
 }
 
@@ -56,13 +54,25 @@ pub fn store(v: &mut [f64], from: [f64; 16])
     ensures { v.new ≡ take (length v.old) from }
 {
     let n = v.len();
-    let mut i = 0usize;
-    while i + 1 < n {
+    for pair in 0..n / 2 {
+        let i = 2 * pair;
         v[i] = from[i];
         v[i + 1] = from[i + 1];
-        i += 2;
     }
-    if i < n {
-        v[i] = from[i];
+    if n % 2 == 1 {
+        v[n - 1] = from[n - 1];
+    }
+}
+
+// Lends each of `count` vectors of d entries to `advance`, in turn.
+pub fn for_each_vector<F: Fn(&mut [f64])>(vectors: &mut [f64], d: usize, count: usize, advance: F)
+    requires filled { length vectors.old ≡ count * d }
+    requires callable { (v : _) → length v.now ≡ d → F.pre advance v }
+    ensures { (G : List Float → List Float) → Computes d G (F.post advance) → vectors.new ≡ concat (map G (chunks d count vectors.old)) }
+{
+    for j in 0..count {
+        let a = j * d;
+        let e = a + d;
+        advance(&mut vectors[a..e]);
     }
 }

@@ -1,85 +1,49 @@
-// Systems of fixed dimension: all loops have the literal width 3, so that a vector stays in registers. In dimension 2 the third
-// place is computed and dropped.
-ghost use Rattle.std.specs.Prelude.{◌≡◌, ◌*◌, ◌≤◌, List, [], ◌∷◌, map, length, Float};
-ghost use Rattle.floats.specs.Vector.{chunks, concat};
+// Systems of fixed dimension: all loops have the width 3, so that a vector stays in registers. In dimension 2 the third place is
+// computed and dropped.
+ghost use Rattle.std.specs.Prelude.{◌≡◌, ◌*◌, ◌<◌, List, [], length, get_or, Float};
 ghost use Rattle.stepper.specs.Stepper.{rk4, moved};
-ghost use Rattle.system.specs.System.{dim};
+ghost use Rattle.system.specs.System.{dim, field, tangent};
+ghost use Rattle.system.specs.Array.{in16};
 ghost use Rattle.system.specs.Evaluation.{Fixed};
 ghost use Rattle.rk4.specs.Step.{advance};
 ghost use Rattle.rk4.specs.Stages.{Pointed, Advances, along};
 
 use crate::arrays;
-use stepper::Points;
 use system::{System, fixed};
 
-// The state.
-fn advance_state(system: System, state: &mut [f64], h: f64) -> Points
+// The state, and its stage points.
+fn advance_state(system: System, state: &mut [f64], h: f64) -> [[f64; 16]; 4]
     requires { Fixed system × (length state.old ≡ dim system) }
-    ensures { (m : List Float) → (state.new ≡ (advance system m h state.old).0)
-        × Pointed system m h state.old (result.x1 ∷ result.x2 ∷ result.x3 ∷ result.x4 ∷ []) }
+    ensures { (m : List Float) → (state.new ≡ (advance system m h state.old).0) × Pointed system m h state.old result }
 {
-    let x1 = arrays::zero_padded(state, 3);
-    let k1 = fixed::fixed_field(system, &x1);
-    let x2 = stepper::stage_point(1, x1, k1, k1, k1, h, 3);
-    let k2 = fixed::fixed_field(system, &x2);
-    let x3 = stepper::stage_point(2, x1, k1, k2, k2, h, 3);
-    let k3 = fixed::fixed_field(system, &x3);
-    let x4 = stepper::stage_point(3, x1, k1, k2, k3, h, 3);
-    let k4 = fixed::fixed_field(system, &x4);
-    let next = stepper::update(x1, k1, k2, k3, k4, h, 3);
-    arrays::copy_front(state, next, 3);
-    Points { x1, x2, x3, x4 }
+    let x1 = arrays::zero_padded::<3>(state);
+    let advanced = stepper::advance::<3, _>(
+        |_, x|
+            requires { Fixed system }
+            ensures { (m : List Float) → result ≡ in16 (field system m x.now) }
+        { fixed::fixed_field(system, x) },
+        x1,
+        h,
+    );
+    arrays::copy_front::<3>(state, advanced.next);
+    advanced.points
 }
 
 // One direction, with the stage points of the state.
-fn advance_direction(
-    system: System,
-    t: &mut [f64],
-    x1: &[f64; 16],
-    x2: &[f64; 16],
-    x3: &[f64; 16],
-    x4: &[f64; 16],
-    h: f64,
-)
+fn advance_direction(system: System, points: &[[f64; 16]; 4], t: &mut [f64], h: f64)
     requires { Fixed system × (length t.old ≡ dim system) }
-    ensures { (m : List Float) → t.new
-        ≡ moved (rk4 h) (along system m (x1.now ∷ x2.now ∷ x3.now ∷ x4.now ∷ [])) t.old }
+    ensures { (m : List Float) → t.new ≡ moved (rk4 h) (along system m points.now) t.old }
 {
-    let t1 = arrays::zero_padded(t, 3);
-    let k1 = fixed::fixed_tangent(system, x1, &t1);
-    let t2 = stepper::stage_point(1, t1, k1, k1, k1, h, 3);
-    let k2 = fixed::fixed_tangent(system, x2, &t2);
-    let t3 = stepper::stage_point(2, t1, k1, k2, k2, h, 3);
-    let k3 = fixed::fixed_tangent(system, x3, &t3);
-    let t4 = stepper::stage_point(3, t1, k1, k2, k3, h, 3);
-    let k4 = fixed::fixed_tangent(system, x4, &t4);
-    let next = stepper::update(t1, k1, k2, k3, k4, h, 3);
-    arrays::copy_front(t, next, 3);
-}
-
-// Every direction.
-fn advance_directions(
-    system: System,
-    tangents: &mut [f64],
-    d: usize,
-    count: usize,
-    x1: &[f64; 16],
-    x2: &[f64; 16],
-    x3: &[f64; 16],
-    x4: &[f64; 16],
-    h: f64,
-)
-    requires { Fixed system × (d ≡ dim system) × (length tangents.old ≡ count * d) }
-    ensures { (m : List Float) → tangents.new
-        ≡ concat (map (moved (rk4 h) (along system m (x1.now ∷ x2.now ∷ x3.now ∷ x4.now ∷ []))) (chunks d count tangents.old)) }
-{
-    let mut j = 0usize;
-    while j < count {
-        let a = j * d;
-        let e = a + d;
-        advance_direction(system, &mut tangents[a..e], x1, x2, x3, x4, h);
-        j += 1;
-    }
+    let t1 = arrays::zero_padded::<3>(t);
+    let advanced = stepper::advance::<3, _>(
+        |stage, v|
+            requires { Fixed system × (stage < 4) }
+            ensures { (m : List Float) → result ≡ in16 (tangent system m (get_or points.entry.now stage []) v.now) }
+        { fixed::fixed_tangent(system, &points[stage], v) },
+        t1,
+        h,
+    );
+    arrays::copy_front::<3>(t, advanced.next);
 }
 
 // The state and every direction.
@@ -89,9 +53,10 @@ pub fn advance_fixed(system: System, state: &mut [f64], tangents: &mut [f64], co
 {
     let d = state.len();
     let points = advance_state(system, state, h);
-    let x1 = points.x1;
-    let x2 = points.x2;
-    let x3 = points.x3;
-    let x4 = points.x4;
-    advance_directions(system, tangents, d, count, &x1, &x2, &x3, &x4, h);
+    arrays::for_each_vector(
+        tangents,
+        d,
+        count,
+        |t| advance_direction(system, &points, t, h),
+    );
 }

@@ -5,10 +5,10 @@
 // which validation.rt makes, and what it leaves in the two slices. specs/Stages.antt only serves the private functions.
 // proofs/Advance.antt and proofs/Tests.antt have what a caller needs: a step keeps every length, and when no test fails.
 //
-// Crate stepper has the formulas of the method and the loop over them. A vector is moved by one of three bodies, by where its
+// Crate stepper has the formulas of the method and its four stages. A vector is moved by one of three bodies, by where its
 // numbers live: fixed.rt (width 3, in registers), narrow.rt (8, in registers) and wide.rt (16, in memory; any system). A
-// method adds its formulas to crate stepper, and a system its own to crate system: no body is for one system or one method
-// (docs/DEFINITIONS.md has what each would add).
+// method adds its formulas and its stages to crate stepper, and its stages to wide.rt once more; a system adds its formulas to
+// crate system: no body is for one system (docs/DEFINITIONS.md has what each would add).
 #![tactic(auto)]
 
 mod arrays;
@@ -53,7 +53,7 @@ fn advance_values(
                 narrow::advance_narrow(matrix, d, state, tangents, count, h);
             } else {
                 let mut columns = [0.0; 256];
-                matrix::transpose(matrix, d, 16, &mut columns);
+                matrix::transpose::<16>(matrix, d, &mut columns);
                 let linear = System::Linear(d);
                 wide::advance_wide(linear, &columns, state, tangents, count, h);
             }

@@ -1,29 +1,19 @@
 -- A rule at every place of a vector: length, places, and the first places of the vectors. Nothing here knows a stepper.
-use Prim.Native.Nat.{ℕ, zero, suc, ◌+◌, ◌≤◌, ◌<◌}
+use Prim.Native.Nat.{ℕ, zero, suc, ◌≤◌, ◌<◌}
 use native.Mathlib.Nat.{not-suc-le-zero, le_of_suc-le-suc}
 use native.Mathlib.Omega.{arith}
 use mathlib.Core.Path.{◌≡◌, refl, sym, ap, ap₂, ◌∙◌}
-use mathlib.Core.List.{List, [], ◌∷◌, ◌++◌, map}
-use lib.ListN.{length, take, drop, set, length-take}
-use lib.Seq.{take-take, take_at, length-take-le, get_or-take, ext_get_or}
+use mathlib.Core.List.{List, [], ◌∷◌, map}
+use lib.ListN.{length, take, drop, length-take}
+use lib.Seq.{take-take, length-take-le, get_or-take, ext_get_or}
 use lib.Ieee.{Float, nan}
-use Rattle.floats.proofs.Fill.{fill_step}
 use Rattle.stepper.specs.Stepper.{Rule, at, entrywise, base}
-use Rattle.stepper.specs.Rules.{latest}
 
 -- a map after another, over the derivatives
 mapped : {C : Type 0} (f : List Float → C) (g : List Float → List Float) (h : List Float → C) → ((k : List Float) → f (g k) ≡ h k)
     → (ks : List (List Float)) → map f (map g ks) ≡ map h ks
 mapped f g h e [] = refl
 mapped {C} f g h e (k ∷ ks) = ap₂ (λ (a : C) (l : List C). a ∷ l) (e k) (mapped f g h e ks)
-
-pub map_latest {a b} : {A : Type a} {C : Type b} (f : A → C) (n : ℕ) (k₁ k₂ k₃ k₄ : A) → map f (latest n k₁ k₂ k₃ k₄) ≡ latest n (f k₁) (f k₂) (f k₃) (f k₄)
-unfolding latest
-map_latest f zero k₁ k₂ k₃ k₄ = refl
-map_latest f (suc zero) k₁ k₂ k₃ k₄ = refl
-map_latest f (suc (suc zero)) k₁ k₂ k₃ k₄ = refl
-map_latest f (suc (suc (suc zero))) k₁ k₂ k₃ k₄ = refl
-map_latest f (suc (suc (suc (suc n)))) k₁ k₂ k₃ k₄ = refl
 
 pub entrywise_base : (ks : List (List Float)) (v : List Float) → entrywise base ks v ≡ v
 unfolding entrywise
@@ -69,20 +59,14 @@ module _ (p : Rule) where
       ∙ entrywise_take d (map (take w) Ks) (take w B)
       ∙ ap₂ (entrywise p) (mapped (take d) (take w) (take d) (λ k. take-take d w k h) Ks) (take-take d w B h)
 
--- ---- a loop that writes the places of a rule over a list o, from the front
-
--- X after i iterations
-abbrev pub Written : Rule → List (List Float) → List Float → List Float → ℕ → List Float → Type 0
-Written p ks v o i X = X ≡ take i (entrywise p ks v) ++ drop i o
-
-module _ (p : Rule) (ks : List (List Float)) (v : List Float) (i : ℕ) (X : List Float) where
-  pub written_next : (o : List Float) (x : Float) → Written p ks v o i X → x ≡ p (map (at i) ks) (at i v) → i < length v → i < length o
-      → Written p ks v o (i + 1) (set X i x)
-  written_next o x e f h g =
-      let n = entrywise_length p ks v in
-      fill_step (entrywise p ks v) o X i x e (f ∙ sym (entrywise_at p ks v i h)) (omega arith) g
-
-  pub written_front : (o : List Float) → Written p ks v o i X → i ≤ length v → take i X ≡ entrywise p (map (take i) ks) (take i v)
-  written_front o e h =
-      let n = entrywise_length p ks v in
-      ap (take i) e ∙ take_at (take i (entrywise p ks v)) (drop i o) i (length-take-le i (entrywise p ks v) (omega arith)) ∙ entrywise_take p i ks v
+  -- a loop that writes the first w places
+  pub front_written : (ks : List (List Float)) (v : List Float) (w : ℕ) (o : List Float) → w ≤ length v → w ≤ length o → ((i : ℕ) → i < w → at i o ≡ p (map (at i) ks) (at i v))
+      → take w o ≡ entrywise p (map (take w) ks) (take w v)
+  front_written ks v w o h g e =
+      let l = entrywise_length ks v in
+      let n : length (take w o) ≡ w = length-take-le w o g in
+      let m : length (take w (entrywise p ks v)) ≡ w = length-take-le w (entrywise p ks v) (omega arith) in
+      ext_get_or nan (take w o) (take w (entrywise p ks v)) (n ∙ sym m) (λ i t.
+      let s : i < w = omega arith in
+      get_or-take w o i nan s ∙ e i s ∙ sym (get_or-take w (entrywise p ks v) i nan s ∙ entrywise_at ks v i (omega arith)))
+      ∙ entrywise_take w ks v

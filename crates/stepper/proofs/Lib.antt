@@ -1,3 +1,4 @@
 -- Laws, one subject a file.
 pub mod Entrywise
 pub mod Moves
+pub mod FourStages

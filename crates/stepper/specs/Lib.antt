@@ -1,4 +1,4 @@
--- What the contracts cite: steppers with the classical one, and its rules by number; and examples.
+-- What the contracts cite: steppers with the classical one, and what a lent derivative computes; and examples.
 pub mod Stepper
-pub mod Rules
+pub mod Stages
 pub mod Examples

@@ -1,55 +1,31 @@
 -- lorenz96::vector_field
-use Prim.Native.Nat.{◌-◌}
 use native.Mathlib.Omega.{arith}
 use mathlib.Core.Path.{◌∙◌}
-use borrow.Author.Rules.{rules}
 use lib.ListN.{length-set}
-use Rattle.lorenz96.specs.Ring.{ring, cell_field}
-use Rattle.lorenz96.specs.Around.{Cells}
-use Rattle.lorenz96.proofs.Ring.{At, at_first, at_second, last_after, Going, going_first, going_next, going_all, going_last, front_field}
+use Rattle.lorenz96.proofs.Ring.{at_second, last_after, written_two, written_all, written_last, front_field}
 use Rattle.lorenz96.proofs.vector_field.Goals as goal
-use Rattle.lorenz96.proofs.vector_field.Goals.{Else-cells-gt16}
 
--- there are 4 to 16 cells
-enough : (c : Else-cells-gt16) → Cells c.args.cells
-enough c = record { enough = omega arith; within = omega arith }
-
-pub loop-i-init : goal.loop-i-init
-loop-i-init c = let q = enough (goal.at.loop-i-init c).Else-cells-gt16 in (going_first q c.requires, at_first c.first_stencil-s.ensures)
-
-pub loop-i-preserved : goal.loop-i-preserved
-loop-i-preserved c =
-    let l = c.loop-i in
-    let g = l.invariant.0 in
-    let a = l.invariant.1 in
-    let e = a.next (omega arith) in
+pub loop-pair-preserved : goal.loop-pair-preserved
+loop-pair-preserved c =
+    let v = c.loop-pair.invariant in
+    let e = v.state.next (omega arith) in
     let f = c.next_pair-next.ensures in
-    let b = c.shifted-middle.ensures _ _ _ (omega (arith, g.cells.enough)) a.around e in (
-      going_next g (omega arith) (c.cell_field.ensures _ _ _ a.around e) (c.cell_field-in-loop-i.ensures _ _ _ b f.first),
-      at_second f (c.shifted-s.ensures _ _ _ (omega (arith, g.cells.enough)) b f.first),
-    )
+    let b = c.shifted-middle.ensures _ _ _ (omega arith) v.state.around e in
+    record {
+      long = length-set _ _ _ ∙ length-set _ _ _ ∙ v.long;
+      written = written_two _ _ _ _ (omega arith) (omega arith) (c.cell_field.ensures _ _ _ v.state.around e) (c.cell_field-in-loop-pair.ensures _ _ _ b f.first) v.written;
+      state = at_second (omega arith) f (c.shifted-s.ensures _ _ _ (omega arith) b f.first);
+    }
 
 -- an odd ring has one cell more
-pub returns-then-i-cells : goal.returns-then-i-cells
-returns-then-i-cells c =
-    let l = c.loop-i in
+pub returns-then-cells-eq1 : goal.returns-then-cells-eq1
+returns-then-cells-eq1 c =
+    let v = c.loop-pair.invariant in
     let ar = c.args in
-    let e = last_after ar.cells ar.x.now l.i (omega arith) (omega arith) in (
-      length-set l.out l.i _ ∙ l.invariant.0.sized,
-      λ q. front_field _ _ _ _ (going_last l.invariant.0 (omega arith) (omega arith) (c.cell_field-then-i-cells.ensures _ _ _ l.invariant.1.around e)),
-    )
+    let e = last_after ar.cells ar.x.now _ (omega arith) (omega arith) in
+    (length-set _ _ _ ∙ v.long, λ q. front_field _ _ _ _ (written_last _ _ _ (omega arith) (omega arith) (omega arith) (c.cell_field-then-cells-eq1.ensures _ _ _ v.state.around e) v.written))
 
-pub returns-else-i-cells : goal.returns-else-i-cells
-returns-else-i-cells c = let l = c.loop-i in (l.invariant.0.sized, λ q. front_field _ _ _ _ (going_all l.invariant.0 (omega arith)))
-
-pub returns-then-cells-lt4 : goal.returns-then-cells-lt4
-returns-then-cells-lt4 c = (search rules, λ q. absurd (omega (arith, q.enough)))
-
-pub returns-then-cells-gt16 : goal.returns-then-cells-gt16
-returns-then-cells-gt16 c = (search rules, λ q. absurd (omega (arith, q.within)))
-
-pub first_stencil-s-requires : goal.first_stencil-s-requires
-first_stencil-s-requires c = enough c
-
-pub next_pair-next-requires : goal.next_pair-next-requires
-next_pair-next-requires c = let g = c.loop-i.invariant.0 in (g.cells, g.even, omega arith)
+pub returns-else-cells-eq1 : goal.returns-else-cells-eq1
+returns-else-cells-eq1 c =
+    let v = c.loop-pair.invariant in
+    (v.long, λ q. front_field _ _ _ _ (written_all _ _ _ (omega arith) (omega arith) v.written))

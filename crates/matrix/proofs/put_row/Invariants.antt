@@ -1,14 +1,7 @@
 -- matrix::put_row
-use Prim.Native.Nat.{◌+◌, ◌*◌, ◌≤◌, ◌-◌}
-use native.Mathlib.Omega.{arith}
-use mathlib.Core.Path.{◌≡◌, refl}
-use borrow.Author.Rules.{rules}
-use lib.ListN.{length, length-set}
-use Rattle.matrix.proofs.Transposition.{Put, Kept, put_entry, kept_entry, column_fits}
+use Rattle.std.proofs.Common.{◌≡◌, length}
+use Rattle.matrix.proofs.Transposition.{Put, Kept}
 use Rattle.matrix.proofs.put_row.Given as goal
 
 abbrev pub invariant-loop-j : goal.invariant-loop-j
-invariant-loop-j l = (l.j ≤ length l.row) × (length l.columns ≡ length l.initial.columns) × Put l.width l.i l.row l.j l.columns × Kept l.width l.i l.initial.columns l.columns
-
-abbrev pub decreases-loop-j : goal.decreases-loop-j
-decreases-loop-j l = length l.row - l.j
+invariant-loop-j g l = (length l.columns ≡ length l.fn.columns) × Put g.row.WIDTH l.i l.row l.j l.columns × Kept g.row.WIDTH l.i l.fn.columns l.columns

@@ -1,39 +1,28 @@
 -- rk4::arrays::copy_front
-use Prim.Native.Nat.{◌≤◌, ◌-◌}
-use native.Mathlib.Omega.{arith}
-use mathlib.Core.Path.{◌≡◌, refl, sym, ap, ◌∙◌}
+use Rattle.std.proofs.Common.{◌≡◌, length, take, arith, rules, sym, ◌∙◌}
+use Rattle.std.specs.Float.{nan}
+use lib.ListN.{length-take}
 use lib.Seq.{get_or-take}
-use lib.Ieee.{nan}
-use borrow.Author.Rules.{rules}
-use lib.ListN.{length, take, length-set, length-take}
-use Rattle.rk4.proofs.Copy.{Copied, copied_next, copied_past, copied_over}
+use Rattle.rk4.proofs.Copy.{copied_next, copied_past, copied_over}
 use Rattle.rk4.proofs.arrays.copy_front.Goals as goal
 use Rattle.rk4.proofs.arrays.copy_front.Goals.{then-i-out, else-i-out}
 
-pub loop-i-init : goal.loop-i-init
-loop-i-init c = (omega arith, refl, refl)
-
 pub loop-i-preserved : goal.loop-i-preserved
-loop-i-preserved c =
+loop-i-preserved g c =
     let l = c.loop-i in
-    let ar = c.args in
-    let o = ar.out.now in
-    let L = take (length o) ar.from in
-    let n = length-take (length o) ar.from in
-    let m : length ar.from ≡ 16 = search rules in
-    let e = get_or-take (length o) ar.from l.i nan in
+    let o = c.args.out.now in
+    let from = c.args.from in
+    let L = take (length o) from in
+    let n = length-take (length o) from in
+    let m : length from ≡ 16 = search rules in
     elim c.if-i-out.branch [
-      | then-i-out w ↦ (omega arith, ap length w.out-is ∙ simp length-set l.invariant.1, w.out-is ∙ copied_next L o l.out l.i l.invariant.2 _ (sym (e (omega arith))) (omega (arith, n)) (omega arith))
-      | else-i-out w ↦ (omega arith, ap length w.out-is ∙ l.invariant.1, w.out-is ∙ copied_past L o l.out l.i l.invariant.2 (omega (arith, n)))
+      | then-i-out w ↦ w.out-is ∙ copied_next L o l.out l.i l.invariant _ (sym (get_or-take (length o) from l.i nan (omega arith))) (omega arith) (omega arith)
+      | else-i-out w ↦ w.out-is ∙ copied_past L o l.out l.i l.invariant (omega arith)
     ]
 
-pub shape_of-out : goal.shape_of-out
-shape_of-out c = c.loop-i.invariant.1
-
 pub returns : goal.returns
-returns c =
-    let l = c.loop-i in
-    let ar = c.args in
-    let e : l.i ≡ ar.width = omega arith in
-    let m : length ar.from ≡ 16 = search rules in
-    copied_over ar.from ar.out.now _ ar.width (rw e at l.invariant.2) (omega arith)
+returns g c =
+    let r = c.args in
+    let e : c.loop-i.i ≡ g.row.WIDTH = omega arith in
+    let m : length r.from ≡ 16 = search rules in
+    copied_over r.from r.out.now _ g.row.WIDTH (rw e at c.loop-i.invariant) (omega arith)

@@ -1,14 +1,13 @@
 -- rk4::fixed::advance_fixed
-use mathlib.Core.List.{[], ◌∷◌}
-use borrow.Author.Rules.{rules}
+use Rattle.std.proofs.Common.{rules}
+use Rattle.stepper.specs.Stepper.{moved, rk4}
+use Rattle.rk4.specs.Stages.{along}
 use Rattle.rk4.proofs.Advance.{advances}
 use Rattle.rk4.proofs.fixed.advance_fixed.Goals as goal
 
-pub advance_directions-requires : goal.advance_directions-requires
-advance_directions-requires c = (c.requires.0, c.requires.1, rw c.requires.1 c.requires.2)
-
 pub returns : goal.returns
 returns c m =
-    let a = c.advance_state-points in
-    let r = a.result in
-    advances _ m _ _ _ _ _ (r.x1 ∷ r.x2 ∷ r.x3 ∷ r.x4 ∷ []) _ _ c.requires.1 (a.ensures m).0 (a.ensures m).1 (c.advance_directions.ensures m)
+    let a = c.args in
+    let p = c.advance_state-points in
+    let e = p.ensures m in
+    advances a.system m a.h _ _ a.count _ p.result _ _ c.requires.1 e.0 e.1 (c.for_each_vector.ensures (moved (rk4 a.h) (along a.system m p.result)) (λ v w n q. search rules))
