@@ -72,12 +72,23 @@ static size_t used(struct call *call)
     return (size_t)(top - lowest);
 }
 
+/* Rates in order, rising and then falling, or mixed: how much the sort needs depends on it. */
+static void fill(size_t shape)
+{
+    for (size_t i = 0; i < RATES; i++) {
+        size_t folded = i < RATES / 2 ? 2 * i : 2 * (RATES - 1 - i) + 1;
+        size_t at = shape == 0 ? i : shape == 1 ? folded : i * 37 % RATES;
+        rates[i] = 0.5 - 0.004 * (double)at;
+    }
+}
+
 /* All calls, of a system with every number of directions. */
 static void measure(struct lyapunov_system system)
 {
     of = system;
     of.matrix = lyapunov_handed_const(system.matrix, rates);
-    for (top_k = 1; top_k <= of.dimension; top_k++)
+    for (top_k = 1; top_k <= of.dimension; top_k++) {
+        fill(top_k % 3);
         for (size_t i = 0; i < CALLS; i++) {
             size_t bytes = used(&calls[i]);
             if (refused != 0) {
@@ -86,6 +97,7 @@ static void measure(struct lyapunov_system system)
             }
             calls[i].most = bytes > calls[i].most ? bytes : calls[i].most;
         }
+    }
 }
 
 int main(int argc, char **argv)
@@ -97,8 +109,6 @@ int main(int argc, char **argv)
         start[i] = 1.0 + 0.1 * (double)i;
     for (i = 0; i < sizeof matrix / sizeof *matrix; i++)
         matrix[i] = 0.02 * ((double)(i * 7 % 11) - 5.0);
-    for (i = 0; i < RATES; i++)
-        rates[i] = 0.5 - 0.004 * (double)i;
     lyapunov_store_empty(&store);
     measure(lyapunov_lorenz(10.0, 28.0, 8.0 / 3.0));
     measure(lyapunov_rossler(0.2, 0.2, 5.7));

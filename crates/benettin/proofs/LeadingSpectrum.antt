@@ -21,11 +21,11 @@ use Rattle.floats.specs.Finite.{first_not_finite}
 use Rattle.floats.specs.Arithmetic.{◌⊕◌, zero⁺}
 use Rattle.floats.proofs.Updated.{map_take, zip_take}
 use Rattle.floats.proofs.Vector.{Sized, length_concat, map_sized}
-use Rattle.system.specs.System.{dim}
 use Rattle.rk4.proofs.Advance.{direction_length}
 use Rattle.gram_schmidt.specs.Orthonormalise.{Basis, orthonormalise}
-use Rattle.benettin.specs.Run.{Dynamics, Problem, RunState, Status, ok, refused, refused_at, tested, stepped, step, steps, unless_collapsed, reorthonormalise, count_faint, Row, Course}
-use Rattle.benettin.specs.Run.{accumulate, row, initial, check_duration, start_of, course_of, RunAnswer, ended, stopped, answer, OutputLengths, run_past, run, count_tests, output_tests, run_tests}
+use Rattle.benettin.specs.Run.{Dynamics, Problem, RunState, Status, ok, refused, refused_at, tested, stepped, step, unless_collapsed, reorthonormalise, count_faint, Row, Course}
+use Rattle.benettin.specs.Run.{accumulate, row, initial, check_duration, start_of, course_of, RunAnswer, ended, stopped, answer, run_past, run, count_tests, output_tests, run_tests}
+use Rattle.benettin.specs.declared.OutputLengths.{OutputLengths}
 use Rattle.benettin.specs.LeadingSpectrum.{leading_row, leading, AtOrAbove, RefusedFrom, number, LeadingSpectrum}
 use Rattle.benettin.specs.Estimate.{Input, problem_within, problem, dynamics, estimate}
 use Rattle.benettin.proofs.Prefix.{cut_at, cut_none, cut_some, take_replicate, drawn_directions_take, drawn_directions_sized, drawn_directions_length}

@@ -15,7 +15,8 @@ use Rattle.system.specs.System.{dim}
 use Rattle.system.specs.declared.System.{System}
 use Rattle.rk4.proofs.Advance.{state_length}
 use Rattle.gram_schmidt.proofs.Finished.{sets_start}
-use Rattle.benettin.specs.Run.{Dynamics, Problem, Row, Course, Status, ok, refused, Spectrum, RunRefusal, RunAnswer, ended, stopped, answer, no_faint, OutputLengths, run_tests, course_of, run_past, run}
+use Rattle.benettin.specs.Run.{Dynamics, Problem, Row, Course, Status, ok, refused, Spectrum, RunRefusal, RunAnswer, ended, stopped, answer, no_faint, run_tests, course_of, run_past, run}
+use Rattle.benettin.specs.declared.OutputLengths.{OutputLengths}
 use Rattle.benettin.specs.Estimate.{Input, problem_within, problem, dynamics, estimate}
 use Rattle.benettin.specs.Outputs.{Call, Meets, lent, lengths_of, estimated, outputs_from, outputs, sixteen, flat_row, flat_rows}
 use Rattle.benettin.specs.Refusals.{Wide}

@@ -10,26 +10,16 @@ use lib.ListN.{length}
 use lib.Ieee.{Float}
 use lib.Ieee.Scale.{finite}
 use Rattle.error.specs.Tests.{Test, test, first_failing}
-use Rattle.error.proofs.Tests.{stop, passed, both_passed}
-use Rattle.floats.specs.Finite.{positive, index, first_not_finite}
-use Rattle.floats.specs.declared.Position.{Position}
-use Rattle.floats.specs.declared.Position.TheVariants.{At, Nowhere}
+use Rattle.error.proofs.Tests.{passed, both_passed}
+use Rattle.floats.specs.Finite.{positive, first_not_finite}
 use Rattle.system.specs.System.{dim, cells_fit}
 use Rattle.system.specs.declared.System.{System}
 use Rattle.system_validation.specs.Tests.{matrix_tests, time_tests}
 use Rattle.system_validation.proofs.Tests.{dimension_passed, matrix_passed, length_passed, time_passed}
-use Rattle.benettin.specs.Run.{OutputLengths, count_tests, output_tests, input_tests, run_tests}
+use Rattle.benettin.specs.Run.{count_tests, output_tests, input_tests, run_tests}
+use Rattle.benettin.specs.declared.OutputLengths.{OutputLengths}
 use Rattle.benettin.specs.Estimate.{Input, limit, setting_tests, is_none, state_tests, set_up_tests, start_tests, problem_within, dynamics}
 use Rattle.benettin.specs.Validation.{Ready}
-
--- ---- 11, by the position that the code found
-
-module _ {P : Position} {o : Option ℕ} (e : index P ≡ o) where
-  pub stop_at : (ts : List Test) (i : ℕ) → P ≡ At i → some (Test.refusal (test (is_none (some i)) 11 i)) ≡ first_failing (test (is_none o) 11 (get_or o 0) ∷ ts)
-  stop_at ts i f = rw (← e, f) (stop _ _ refl)
-
-  pub skip_nowhere : P ≡ Nowhere → is_none o ≡ true
-  skip_nowhere f = rw (← e, f)
 
 -- ---- what passing a block gives
 

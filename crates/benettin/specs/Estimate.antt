@@ -2,7 +2,7 @@
 use Rattle.std.specs.Prelude.{ℕ, Bool, true, false, List, [], ◌∷◌, ◌++◌, leb, ltb, Float}
 use Rattle.std.proofs.Math.Option.{Option, none, some, get_or}
 use Rattle.error.specs.Tests.{Test, test, first_failing}
-use Rattle.error.specs.Refusal.{Answer, value, refused, refusal}
+use Rattle.error.specs.Refusal.{Answer, value, refused}
 use Rattle.error.specs.declared.Refusal.{Refusal}
 use Rattle.floats.specs.Arithmetic.{◌⊗◌}
 use Rattle.floats.specs.Finite.{first_not_finite}
@@ -12,10 +12,9 @@ use Rattle.system.specs.declared.System.{System}
 use Rattle.system_validation.specs.Tests.{dimension_tests, matrix_tests, length_tests, time_tests, step_size_tests}
 use Rattle.rk4.specs.Step.{advance}
 use Rattle.gram_schmidt.specs.GramSchmidt.{euclidean}
-use Rattle.benettin.specs.Run.{Dynamics, Generator, Problem, OutputLengths, RunAnswer, as_float, top_k_tests, count_tests, run}
+use Rattle.benettin.specs.Run.{Dynamics, Generator, Problem, RunAnswer, as_float, top_k_tests, count_tests, run}
+use Rattle.benettin.specs.declared.OutputLengths.{OutputLengths}
 use Rattle.benettin.specs.declared.BenettinConfig.{BenettinConfig}
-use Rattle.benettin.specs.declared.Configured.{Configured}
-use Rattle.benettin.specs.declared.Configured.TheVariants.{Config, Refused}
 
 -- what a run is handed, apart from K and the outputs
 pub record Input : Type 0 where
@@ -135,11 +134,6 @@ built none c = value c
 unfoldable pub configured : ℕ → Float → ℕ → ℕ → Answer BenettinConfig
 unfolding first_failing
 configured K h steps windows = built (first_failing (setting_tests K h steps windows windows 0)) (settings K h steps windows 0 default_seed)
-
--- what the code's answer stands for
-abbrev pub configuration : Configured → Answer BenettinConfig
-configuration (Config c) = value c
-configuration (Refused e) = refused (refusal e)
 
 abbrev pub input : System → List Float → Float → List Float → BenettinConfig → Input
 input S m time x c =

@@ -1,7 +1,8 @@
 -- Demand 3: a spectrum does not move when more of it is wanted. proofs/LeadingSpectrum.antt proves it.
 use Rattle.std.specs.Prelude.{ℕ, ◌/◌, ◌≤◌, ◌≡◌, ◌⊎◌, ◌↔◌, ◌≢◌, map, take}
 use Rattle.system.specs.System.{dim}
-use Rattle.benettin.specs.Run.{Row, Spectrum, RunRefusal, RunAnswer, ended, stopped, OutputLengths}
+use Rattle.benettin.specs.Run.{Row, Spectrum, RunRefusal, RunAnswer, ended, stopped}
+use Rattle.benettin.specs.declared.OutputLengths.{OutputLengths}
 use Rattle.benettin.specs.Estimate.{Input, estimate}
 
 -- ---- `struck out` is document 01's term: without the exponents, faint counts, locals and runnings of directions k and above; all else stays

@@ -1,13 +1,16 @@
 -- What a run answers and leaves in its three outputs, flat, entry by entry, and what a call of it meets. Definitions only.
-use Rattle.std.specs.Prelude.{ℕ, ◌-◌, ◌≡◌, List, [], ◌∷◌, ◌++◌, length, replicate, Float}
+use Rattle.std.specs.Prelude.{ℕ, ◌-◌, ◌≡◌, List, [], ◌∷◌, ◌++◌, length, replicate, Float, Result, Ok, Err}
 use Rattle.std.proofs.Math.Option.{Option, none, some}
 use Rattle.std.proofs.lemmas.List.Edits.{sets}
-use Rattle.error.specs.Refusal.{refuse, reported}
+use Rattle.error.specs.Refusal.{refuse, refusal}
+use Rattle.error.specs.declared.LyapunovError.{LyapunovError}
 use Rattle.error.specs.declared.Refusal.{Refusal}
 use Rattle.floats.specs.Arithmetic.{zero⁺}
-use Rattle.benettin.specs.Run.{OutputLengths, lengths, RunAnswer, ended, stopped, Row}
+use Rattle.benettin.specs.Run.{lengths, RunAnswer, ended, stopped, Row}
+use Rattle.benettin.specs.declared.OutputLengths.{OutputLengths}
 use Rattle.benettin.specs.Estimate.{Input, estimate}
 use Rattle.benettin.specs.declared.SpectrumEstimate.{SpectrumEstimate}
+use Rattle.benettin.specs.declared.RefusedRun.{RefusedRun}
 
 -- the answer, and what the outputs hold
 pub record Estimated : Type 0 where
@@ -77,10 +80,10 @@ unfolding estimate outputs_from
 estimated i K rows exponents final = outputs i.windows rows exponents final (estimate i K (lengths_of rows exponents final))
 
 -- what the code's answer and the outputs stand for
-abbrev pub observed : SpectrumEstimate → List Float → List Float → List Float → Estimated
-observed r rows exponents final =
+abbrev pub observed : Result SpectrumEstimate RefusedRun → List Float → List Float → List Float → Estimated
+observed (Ok r) rows exponents final =
     record {
-      refusal = reported r.outcome;
+      refusal = none;
       windows = r.windows;
       steps = r.steps;
       final_time = r.final_time;
@@ -90,6 +93,22 @@ observed r rows exponents final =
       exponents = exponents;
       final_state = final;
     }
+observed (Err r) rows exponents final =
+    record {
+      refusal = some (refusal r.error);
+      windows = r.windows;
+      steps = r.steps;
+      final_time = zero⁺;
+      measured_time = zero⁺;
+      faint = replicate 16 0;
+      rows = rows;
+      exponents = exponents;
+      final_state = final;
+    }
+
+-- a run that is refused before its first step
+abbrev pub unstarted : LyapunovError → RefusedRun
+unstarted e = record { error = e; windows = 0; steps = 0 }
 
 -- ---- a call
 

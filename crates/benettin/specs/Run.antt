@@ -8,6 +8,7 @@ use Rattle.floats.specs.Arithmetic.{◌⊕◌, ◌⊗◌, ◌⊘◌, zero⁺, wh
 use Rattle.floats.specs.Finite.{first_not_finite}
 use Rattle.floats.specs.Vector.{concat, zip}
 use Rattle.gram_schmidt.specs.Orthonormalise.{Lengths, Basis, orthonormalise}
+use Rattle.benettin.specs.declared.OutputLengths.{OutputLengths}
 
 -- ---- what a run is handed, apart from K and the outputs
 
@@ -277,11 +278,6 @@ answer M n K rows (ok c) =
 answer M n K rows (refused r) = stopped rows r (no_faint K)
 
 -- the lengths of the three outputs
-pub record OutputLengths : Type 0 where
-  pub rows : ℕ
-  pub exponents : ℕ
-  pub state : ℕ
-
 abbrev pub lengths : ℕ → ℕ → ℕ → OutputLengths
 lengths rows exponents state = record { rows = rows; exponents = exponents; state = state }
 

@@ -3,7 +3,7 @@ use Rattle.std.specs.Prelude.{ℕ, ◌+◌, ◌*◌, ◌≤◌, ◌≡◌, true}
 use Rattle.std.specs.Float.Ieee.Scale.{finite}
 use Rattle.system.specs.System.{dim}
 use Rattle.rk4.specs.Tests.{Passed}
-use Rattle.benettin.specs.Run.{OutputLengths}
+use Rattle.benettin.specs.declared.OutputLengths.{OutputLengths}
 use Rattle.benettin.specs.Estimate.{Input, limit}
 
 pub record Ready (total : ℕ) (i : Input) (K : ℕ) (o : OutputLengths) : Type 0 where

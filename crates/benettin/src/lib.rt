@@ -10,9 +10,11 @@
 pub mod validation;
 
 ghost use Rattle.std.specs.Prelude.{◌≡◌};
+ghost use Rattle.error.specs.Refusal.{answer};
 ghost use Rattle.benettin.specs.Estimate as Spec;
+ghost use Rattle.benettin.specs.Outputs as Outputs;
 
-use error::{LyapunovError, Outcome};
+use error::LyapunovError;
 
 // The most that each of the three counts may be: 2^24.
 pub const COUNT_LIMIT: u64 = 16777216;
@@ -31,18 +33,29 @@ pub struct BenettinConfig {
     pub seed: u64,
 }
 
-// What building the settings answers.
+// How long the lent outputs are, which test 13 reads.
 #[derive(Clone, Copy)]
-pub enum Configured {
-    Config(BenettinConfig),
-    Refused(LyapunovError),
+pub struct OutputLengths {
+    pub rows: usize,
+    pub exponents: usize,
+    pub state: usize,
 }
 
-// What a run answers beside the rows, the exponents and the final state. A refused run has finished `windows` measured
-// windows, its times are +0.0 and its faint counts 0.
+impl OutputLengths {
+    pub fn of(rows: &[f64], exponents: &[f64], final_state: &[f64]) -> OutputLengths
+        ensures { result ≡ Outputs.lengths_of rows.now exponents.now final_state.now }
+    {
+        OutputLengths {
+            rows: rows.len(),
+            exponents: exponents.len(),
+            state: final_state.len(),
+        }
+    }
+}
+
+// What a run answers beside the rows, the exponents and the final state.
 #[derive(Clone, Copy)]
 pub struct SpectrumEstimate {
-    pub outcome: Outcome,
     pub windows: u64,
     pub steps: u64,
     pub final_time: f64,
@@ -50,42 +63,57 @@ pub struct SpectrumEstimate {
     pub faint: [u64; 16],
 }
 
+// What a refused run answers: why, how many measured windows it has finished, and how many steps passed every test.
+#[derive(Clone, Copy)]
+pub struct RefusedRun {
+    pub error: LyapunovError,
+    pub windows: u64,
+    pub steps: u64,
+}
+
+// Refused before its first step.
+impl From<LyapunovError> for RefusedRun {
+    ghost from_gives = { λ error run. run ≡ Outputs.unstarted error };
+
+    fn from(error: LyapunovError) -> RefusedRun {
+        RefusedRun {
+            error,
+            windows: 0,
+            steps: 0,
+        }
+    }
+}
+
 impl BenettinConfig {
     // Settings with no warm-up windows and the default seed, tested by 1 to 5. Of two counts over, 5 names the steps.
-    pub fn new(top_k: usize, step_size: f64, steps_per_window: u64, windows: u64) -> Configured
-        ensures { Spec.configuration result ≡ Spec.configured top_k step_size steps_per_window windows }
+    pub fn new(
+        top_k: usize,
+        step_size: f64,
+        steps_per_window: u64,
+        windows: u64,
+    ) -> Result<BenettinConfig, LyapunovError>
+        ensures { answer result ≡ Spec.configured top_k step_size steps_per_window windows }
     {
-        if let Outcome::Refused(e) = validation::validate_settings(
-            top_k,
-            step_size,
-            steps_per_window,
-            windows,
-            windows,
-            0,
-        ) {
-            return Configured::Refused(e);
-        }
-        Configured::Config(BenettinConfig {
+        let config = BenettinConfig {
             top_k,
             step_size,
             steps_per_window,
             windows,
             transient_windows: 0,
             seed: DEFAULT_SEED,
-        })
+        };
+        validation::validate_settings(config, windows)?;
+        Ok(config)
     }
 
-    // The settings with another count of warm-up windows, which the run tests.
+    // Two setters, which a caller of the source knows by these names. The settings with another count of warm-up windows, which
+    // the run tests.
     pub fn with_transient_windows(self, windows: u64) -> BenettinConfig
         ensures { result ≡ Spec.with_warm_up windows self }
     {
         BenettinConfig {
-            top_k: self.top_k,
-            step_size: self.step_size,
-            steps_per_window: self.steps_per_window,
-            windows: self.windows,
             transient_windows: windows,
-            seed: self.seed,
+            ..self
         }
     }
 
@@ -93,13 +121,6 @@ impl BenettinConfig {
     pub fn with_seed(self, seed: u64) -> BenettinConfig
         ensures { result ≡ Spec.with_seed seed self }
     {
-        BenettinConfig {
-            top_k: self.top_k,
-            step_size: self.step_size,
-            steps_per_window: self.steps_per_window,
-            windows: self.windows,
-            transient_windows: self.transient_windows,
-            seed,
-        }
+        BenettinConfig { seed, ..self }
     }
 }

@@ -1,14 +1,11 @@
 -- A run that is not refused stands somewhere at its end, where it has room in a slot and leaves it sound.
-use Prim.Native.Nat.{ℕ, ◌+◌, ◌*◌, ◌≤◌}
+use Prim.Native.Nat.{ℕ, ◌+◌, ◌*◌}
 use native.Mathlib.Omega.{arith}
 use mathlib.Core.Path.{◌≡◌, refl, subst, ◌∙◌}
-use mathlib.Core.List.{List, ◌++◌}
+use mathlib.Core.List.{List}
 use mathlib.Core.Option.{Option, none, some}
-use lib.ListN.{length, drop, get_or, replicate}
-use lib.Seq.{take-length}
 use Rattle.error.specs.Tests.{first_failing}
 use Rattle.error.specs.declared.Refusal.{Refusal}
-use Rattle.floats.proofs.Sets.{drop_replicate}
 use Rattle.system.specs.System.{dim}
 use Rattle.benettin.specs.Run.{Dynamics, RunState, Status, ok, refused, Row, course_of, answer, run_tests, run_past, run}
 use Rattle.benettin.specs.Estimate.{Input, limit, problem, dynamics, estimate}
@@ -19,15 +16,9 @@ use Rattle.benettin.proofs.Either.{Either}
 use Rattle.benettin.proofs.Made.{MadeLogs, Any, course_made}
 use Rattle.continuation.specs.Continuation.{Stood}
 use Rattle.continuation.proofs.GoingOn.{stood_has}
-use Rattle.store.proofs.Bounds.{Sound, front_at_most}
-use Rattle.store.proofs.Memory.{Fits}
+use Rattle.store.proofs.Bounds.{Sound}
+use Rattle.store.proofs.Memory.{Fits, sixteen_at_most}
 use Rattle.calls.specs.Calls.{Brought, alone}
-
-sixteen_at_most : (n : ℕ) (f : List ℕ) → length f ≤ 16 → ((i : ℕ) → get_or f i 0 ≤ n) → (i : ℕ) → get_or (sixteen f) i 0 ≤ n
-sixteen_at_most n f h g i =
-    let k = length f in
-    subst (λ (l : List ℕ). get_or (f ++ l) i 0 ≤ n) (drop_replicate {A = ℕ} 0 k 16 h)
-    (subst (λ (l : List ℕ). get_or (l ++ drop k (replicate 16 0)) i 0 ≤ n) (take-length f) (front_at_most n k 16 f g i))
 
 pub record Stands (b : Brought) (c : RunState) : Type 0 where
   pub stood : Stood b.input b.rates c
@@ -65,7 +56,7 @@ module _ (b : Brought) where
             record {
               windows = omega (arith, h.finished, r.windows_limit);
               steps = omega (arith, m.made.steps, r.windows_limit, r.warm_up_limit);
-              faint = sixteen_at_most (2 * limit) c.totals.faint (omega (arith, h.faint, r.step.count)) (λ k. omega (arith, m.made.faint k, r.windows_limit, r.warm_up_limit));
+              faint = sixteen_at_most (2 * limit) c.totals.faint (λ k. omega (arith, m.made.faint k, r.windows_limit, r.warm_up_limit));
               clock = m.made.clock;
             };
       }

@@ -12,7 +12,8 @@ use Rattle.error.specs.Tests.{first_failing, ◌else◌}
 use Rattle.error.specs.declared.Refusal.{Refusal}
 use Rattle.error.proofs.Tests.{first_append}
 use Rattle.system.specs.System.{dim}
-use Rattle.benettin.specs.Run.{Dynamics, Problem, RunState, Status, ok, refused, Row, RunAnswer, ended, stopped, OutputLengths, course_of, answer, output_tests, input_tests, run_tests, run_past, run}
+use Rattle.benettin.specs.Run.{Dynamics, Problem, RunState, Status, ok, refused, Row, RunAnswer, ended, stopped, course_of, answer, output_tests, input_tests, run_tests, run_past, run}
+use Rattle.benettin.specs.declared.OutputLengths.{OutputLengths}
 use Rattle.benettin.specs.Estimate.{Input, dynamics, problem_within, problem, estimate}
 use Rattle.benettin.specs.LeadingSpectrum.{number}
 use Rattle.benettin.specs.LeadingOutputs.{rows_from, read_by, read}

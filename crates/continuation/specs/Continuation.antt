@@ -3,7 +3,8 @@ use Rattle.std.specs.Prelude.{ℕ, ◌+◌, ◌≡◌, List, drop, Float}
 use Rattle.std.proofs.Math.Option.{Option, none, some}
 use Rattle.error.specs.Tests.{Test, first_failing}
 use Rattle.error.specs.declared.Refusal.{Refusal}
-use Rattle.benettin.specs.Run.{RunState, ok, RunAnswer, ended, stopped, OutputLengths, course_of, measured, answer, run_tests, run_past}
+use Rattle.benettin.specs.Run.{RunState, ok, RunAnswer, ended, stopped, course_of, measured, answer, run_tests, run_past}
+use Rattle.benettin.specs.declared.OutputLengths.{OutputLengths}
 use Rattle.benettin.specs.Estimate.{Input, problem_within, problem}
 use Rattle.benettin.specs.Outputs.{Estimated, Call, outputs_from, outputs, lengths_of}
 

@@ -2,7 +2,8 @@
 use Rattle.std.specs.Prelude.{ℕ, ◌+◌, ◌-◌, ◌≤◌, ◌≡◌, ◌↔◌, ◌≢◌, List, ◌++◌, take}
 use Rattle.std.proofs.Math.Option.{none}
 use Rattle.system.specs.System.{dim}
-use Rattle.benettin.specs.Run.{Row, RunAnswer, ended, stopped, OutputLengths}
+use Rattle.benettin.specs.Run.{Row, RunAnswer, ended, stopped}
+use Rattle.benettin.specs.declared.OutputLengths.{OutputLengths}
 use Rattle.benettin.specs.Estimate.{Input, estimate}
 use Rattle.benettin.specs.LeadingSpectrum.{leading, RefusedFrom, number}
 use Rattle.benettin.specs.LeadingOutputs.{rows_from, read}

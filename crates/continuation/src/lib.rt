@@ -7,12 +7,11 @@
 ghost use Rattle.std.specs.Prelude.{◌≡◌, ◌+◌, ◌≤◌, leb};
 ghost use Rattle.error.specs.Refusal.{reported};
 ghost use Rattle.error.specs.Tests.{first_failing};
-ghost use Rattle.benettin.specs.Run as Run;
 ghost use Rattle.benettin.specs.Estimate as Estimate;
 ghost use Rattle.continuation.specs.Continuation as Spec;
 
-use benettin::BenettinConfig;
-use error::Outcome;
+use benettin::{BenettinConfig, OutputLengths};
+use error::LyapunovError;
 use system::System;
 
 // All windows of a run that goes on after `done`. A count that is over the limit by itself stands for the sum, which may be
@@ -36,15 +35,11 @@ pub fn validate_later(
     state: &[f64],
     config: BenettinConfig,
     done: u64,
-    rows: usize,
-    exponents: usize,
-    last: usize,
-) -> Outcome
+    lengths: OutputLengths,
+) -> Result<(), LyapunovError>
     requires { done ≤ Estimate.limit }
-    ensures { reported result ≡ first_failing (Spec.later_tests done (Estimate.input system matrix.now time state.now config) config.top_k (Run.lengths rows exponents last)) }
+    ensures { reported result ≡ first_failing (Spec.later_tests done (Estimate.input system matrix.now time state.now config) config.top_k lengths) }
 {
     let total = total_windows(done, config.windows);
-    benettin::validation::validate(
-        system, matrix, time, state, config, total, rows, exponents, last,
-    )
+    benettin::validation::validate(system, matrix, time, state, config, total, lengths)
 }

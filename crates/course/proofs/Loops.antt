@@ -3,16 +3,15 @@ use Prim.Native.Nat.{ℕ, suc, ◌+◌, ◌-◌, ◌*◌, ◌≤◌, ◌<◌}
 use native.Mathlib.Nat.{sub-zero, suc-mul}
 use native.Mathlib.Numerals.{add-one}
 use native.Mathlib.Omega.{arith}
-use mathlib.Core.Path.{◌≡◌, refl, sym, ap, ◌∙◌}
+use mathlib.Core.Path.{◌≡◌, sym, ap, ◌∙◌}
 use mathlib.Core.List.{List, ◌++◌}
 use borrow.Rule.Slice.PartMut as Put
 use borrow.Rule.Slice.PartMut.{put_mid}
 use lib.ListN.{length, take, drop}
-use lib.Seq.{sets, length-sets}
+use lib.Seq.{sets}
 use lib.Ieee.{Float}
-use Rattle.error.specs.declared.LyapunovError.{LyapunovError}
-use Rattle.error.specs.declared.Outcome.TheVariants.{Accepted, Refused}
-use Rattle.floats.proofs.Parts.{put_is}
+use Rattle.std.specs.Prelude.{Result, Ok, Err}
+use Rattle.floats.proofs.Parts.{part_many, put_is}
 use Rattle.floats.proofs.Sets.{sets_append}
 use Rattle.floats.proofs.Vector.{vector_fits}
 use Rattle.system.specs.System.{dim}
@@ -20,79 +19,59 @@ use Rattle.system.specs.declared.System.{System}
 use Rattle.benettin.specs.Run.{Dynamics, Status, ok, refused, window, warm_up, measured, measured_from, with_row, row, accumulate, ◌then◌}
 use Rattle.benettin.specs.Estimate.{dynamics, limit}
 use Rattle.benettin.specs.Outputs.{flat_row, flat_rows}
-use Rattle.totals.specs.Progress.{Held, run_state, status}
+use Rattle.benettin.specs.declared.BenettinConfig.{BenettinConfig}
+use Rattle.benettin.specs.declared.RefusedRun.{RefusedRun}
+use Rattle.totals.specs.Progress.{Held, held, run_state, status}
+use Rattle.totals.specs.declared.Progress.{Progress}
 use Rattle.progress.specs.UnderWay.{Fits, Unmeasured, AllMeasured, Windowed, MeasuredWindow, Recorded, recorded, with_row_of}
-use Rattle.progress.proofs.Bounds.{bounded_up, SameLengths, same_trans, fits_kept, fits_up}
-use Rattle.course.specs.Course.{WarmedUp, written, MeasuredWindows}
-
-same_refl : (H : Held) → SameLengths H H
-same_refl H = record { state = refl; tangents = refl; norms = refl }
+use Rattle.progress.proofs.Bounds.{bounded_up, SameLengths, fits_kept, fits_up}
+use Rattle.course.specs.Course.{WarmedUp, written, windows_from, MeasuredWindows}
 
 -- ---- the warm-up
 
--- when w of W windows are made: those from here on are all of them from the start
-pub record Warming (S : System) (m : List Float) (k : ℕ) (h : Float) (n W : ℕ) (H₀ : Held) (w : ℕ) (H : Held) : Type 0 where
-  pub few : w ≤ W
-  pub kept : SameLengths H₀ H
-  pub fits : Fits S m k h n (limit + w) limit H
-  pub bounded : Unmeasured k w H₀ H
-  pub rest : (D : ℕ) → (status (dim S) k H then warm_up (dynamics S m h D) n (W - w)) ≡ (status (dim S) k H₀ then warm_up (dynamics S m h D) n W)
+-- when w windows are made: those from here on are all of them from the start
+pub record Warming (S : System) (m : List Float) (c : BenettinConfig) (H₀ : Held) (w : ℕ) (H : Held) : Type 0 where
+  pub fits : Fits S m c (limit + w) limit H
+  pub bounded : Unmeasured c.top_k w H₀.progress (Ok H.progress)
+  pub rest : (D : ℕ) → (let go = warm_up (dynamics S m c.step_size D) c.steps_per_window in go (c.transient_windows - w) (run_state (dim S) c.top_k H) ≡ go c.transient_windows (run_state (dim S) c.top_k H₀))
 
-pub warming_start : {S : System} {m : List Float} {k : ℕ} {h : Float} {n W : ℕ} {H : Held} → Fits S m k h n limit limit H → Warming S m k h n W H 0 H
-warming_start {H = H} F =
-    record { few = omega arith; kept = same_refl H; fits = fits_up F.steps (omega arith) (omega arith) F; bounded = λ a c x. bounded_up (omega arith) (omega arith) x; rest = λ D. rw sub-zero }
+module _ {S : System} {m : List Float} {c : BenettinConfig} {H₀ H : Held} {w : ℕ} (I : Warming S m c H₀ w H) where
+  module _ (l : w < c.transient_windows) {x t ns : List Float} where
+    pub warming_next : {p : Progress} → Windowed S m c H x t ns (Ok p) → SameLengths H (held x t ns p) → Warming S m c H₀ (w + 1) (held x t ns p)
+    unfolding warm_up ◌then◌
+    warming_next X s =
+        let z : c.transient_windows - w ≡ suc (c.transient_windows - (w + 1)) = omega arith in
+        record {
+          fits = fits_kept I.fits s (bounded_up (omega arith) (omega arith) (X.bounded (limit + w) limit I.fits.bounded));
+          bounded = λ a b x. bounded_up (omega arith) (omega arith) (X.bounded (a + w) b (I.bounded a b x));
+          rest = λ D. sym (rw (z, ← X.status D)) ∙ I.rest D;
+        }
 
-module _ {S : System} {m : List Float} {k : ℕ} {h : Float} {n W : ℕ} {H₀ H : Held} {w : ℕ} (I : Warming S m k h n W H₀ w H) where
-  unmeasured_up : Unmeasured k W H₀ H
-  unmeasured_up a c x = bounded_up (omega (arith, I.few)) (omega arith) (I.bounded a c x)
+    pub warming_refused : {r : RefusedRun} → Windowed S m c H x t ns (Err r) → WarmedUp S m c H₀ x t ns (Err r)
+    unfolding warm_up ◌then◌
+    warming_refused X =
+        let z : c.transient_windows - w ≡ suc (c.transient_windows - (w + 1)) = omega arith in
+        record { status = λ D. sym (rw (z, ← X.status D)) ∙ I.rest D; bounded = λ a b x. tt }
 
-  pub warming_next : {H' : Held} → w < W → H.progress.outcome ≡ Accepted → Windowed S m k h n H H' → SameLengths H H' → Warming S m k h n W H₀ (w + 1) H'
-  unfolding warm_up ◌then◌
-  warming_next l v X s =
-      let z : W - w ≡ suc (W - (w + 1)) = omega arith in
-      record {
-        few = omega arith;
-        kept = same_trans I.kept s;
-        fits = fits_kept I.fits s (bounded_up (omega arith) (omega arith) (X.bounded (limit + w) limit I.fits.bounded));
-        bounded = λ a c x. bounded_up (omega arith) (omega arith) (X.bounded (a + w) c (I.bounded a c x));
-        rest = λ D. rw (X.status D) (sym (rw (v, z)) ∙ I.rest D);
-      }
-
-  pub warming_refused : (ε : LyapunovError) → H.progress.outcome ≡ Refused ε → WarmedUp S m k h n W H₀ H
-  unfolding ◌then◌
-  warming_refused ε v = record { status = λ D. sym (rw v) ∙ I.rest D; bounded = unmeasured_up }
-
-  pub warming_end : W ≤ w → WarmedUp S m k h n W H₀ H
-  unfolding warm_up ◌then◌
-  warming_end l = record { status = λ D. sym (go D (status (dim S) k H)) ∙ I.rest D; bounded = unmeasured_up }
-    where
-      go : (D : ℕ) (o : Status) → (o then warm_up (dynamics S m h D) n (W - w)) ≡ o
-      go D (ok c) = let z : W - w ≡ 0 = omega arith in rw z
-      go D (refused r) = refl
+  pub warming_end : w ≡ c.transient_windows → WarmedUp S m c H₀ H.state H.tangents H.norms (Ok H.progress)
+  unfolding warm_up
+  warming_end l =
+      let z : c.transient_windows - w ≡ 0 = omega arith in
+      record { status = λ D. sym (rw z) ∙ I.rest D; bounded = λ a b x. bounded_up (omega arith) (omega arith) (I.bounded a b x) }
 
 -- ---- the measured windows
 
--- when w of W windows are made, the rows so far lie before place a
-pub record Measuring (S : System) (m : List Float) (k : ℕ) (h : Float) (n W : ℕ) (H₀ : Held) (rows₀ : List Float) (w a : ℕ) (H : Held) (rows : List Float) : Type 0 where
-  pub few : w ≤ W
-  pub kept : SameLengths H₀ H
-  pub rows_kept : length rows ≡ length rows₀
-  pub place : a ≡ w * (1 + 2 * k)
-  pub fits : Fits S m k h n (limit + limit + w) (limit + w) H
-  pub bounded : AllMeasured k w H₀ H
-  pub rest : written rows a (measured_from (dynamics S m h n) n (W - w) (status (dim S) k H)) ≡ written rows₀ 0 (measured_from (dynamics S m h n) n W (status (dim S) k H₀))
+-- when w windows are made: their rows lie before those of the next
+pub record Measuring (S : System) (m : List Float) (c : BenettinConfig) (H₀ : Held) (rows₀ : List Float) (w : ℕ) (H : Held) (rows : List Float) : Type 0 where
+  pub fits : Fits S m c (limit + limit + w) (limit + w) H
+  pub bounded : AllMeasured c.top_k w H₀.progress (Ok H.progress)
+  pub rest : (let M = dynamics S m c.step_size c.steps_per_window in written rows (w * (1 + 2 * c.top_k)) (measured M c.steps_per_window (c.windows - w) (run_state (dim S) c.top_k H)) ≡ written rows₀ 0 (windows_from S m c H₀))
 
-pub measuring_start : {S : System} {m : List Float} {k : ℕ} {h : Float} {n W : ℕ} {H : Held} (rows : List Float) → Fits S m k h n (limit + limit) limit H → Measuring S m k h n W H rows 0 0 H rows
-measuring_start {H = H} rows F =
-    record {
-      few = omega arith;
-      kept = same_refl H;
-      rows_kept = refl;
-      place = omega arith;
-      fits = fits_up F.steps (omega arith) (omega arith) F;
-      bounded = λ a c x. bounded_up (omega arith) (omega arith) x;
-      rest = rw sub-zero;
-    }
+pub measuring_start : {S : System} {m : List Float} {c : BenettinConfig} {H : Held} (rows : List Float) → Fits S m c (limit + limit) limit H → Measuring S m c H rows 0 H rows
+unfolding measured_from
+measuring_start {c = c} rows F =
+    let z : 0 * (1 + 2 * c.top_k) ≡ 0 = omega arith in
+    record { fits = fits_up (omega arith) (omega arith) F; bounded = λ a b x. bounded_up (omega arith) (omega arith) x; rest = rw (sub-zero, z) }
 
 -- the row of one window more, and the rows behind it
 module _ (M : Dynamics) (n j : ℕ) (rows : List Float) (a width : ℕ) (new : List Float) (l : a + width ≤ length rows) (g : length new ≡ width) where
@@ -111,38 +90,48 @@ module _ (M : Dynamics) (n j : ℕ) (rows : List Float) (a width : ℕ) (new : L
       let z : s ≡ refused r = ap (λ (y : Recorded). y.end) e in
       rw (z, x, Put.put_same a (a + width - a) rows)
 
-module _ {S : System} {m : List Float} {k : ℕ} {h : Float} {n W : ℕ} {H₀ H : Held} {rows₀ rows : List Float} {w a : ℕ} (I : Measuring S m k h n W H₀ rows₀ w a H rows) where
-  all_measured_up : AllMeasured k W H₀ H
-  all_measured_up b c x = bounded_up (omega (arith, I.few)) (omega (arith, I.few)) (I.bounded b c x)
+module _ {S : System} {m : List Float} {c : BenettinConfig} {H₀ H : Held} {rows₀ rows : List Float} {w : ℕ} (I : Measuring S m c H₀ rows₀ w H rows) where
+  abbrev width : ℕ
+  width = 1 + 2 * c.top_k
 
-  pub row_room : w < W → W * (1 + 2 * k) ≤ length rows₀ → a + (1 + 2 * k) ≤ length rows
-  row_room l g = omega (arith, vector_fits w W (1 + 2 * k) l, I.place, I.rows_kept)
+  abbrev place : ℕ
+  place = w * width
 
-  pub measuring_next : {H' : Held} {new : List Float} → w < W → a + (1 + 2 * k) ≤ length rows → H.progress.outcome ≡ Accepted
-      → MeasuredWindow S m k h n H (take (a + (1 + 2 * k) - a) (drop a rows)) H' new → SameLengths H H' → length new ≡ 1 + 2 * k
-      → Measuring S m k h n W H₀ rows₀ (w + 1) (a + (1 + 2 * k)) H' (put_mid a (a + (1 + 2 * k) - a) rows new)
-  unfolding measured_from measured
-  measuring_next {H'} {new} l g v X s e =
-      let z : W - w ≡ suc (W - (w + 1)) = omega arith in
-      let y : (w + 1) * (1 + 2 * k) ≡ w * (1 + 2 * k) + (1 + 2 * k) = rw (add-one w, suc-mul w (1 + 2 * k)) in
-      record {
-        few = omega arith;
-        kept = same_trans I.kept s;
-        rows_kept = ap length (put_is rows a (1 + 2 * k) new g e) ∙ length-sets rows a new ∙ I.rows_kept;
-        place = omega (arith, I.place);
-        fits = fits_kept I.fits s (bounded_up (omega arith) (omega arith) (X.bounded (limit + limit + w) (limit + w) I.fits.bounded));
-        bounded = λ b c x. bounded_up (omega arith) (omega arith) (X.bounded (b + w) (c + w) (I.bounded b c x));
-        rest = sym (one_more (dynamics S m h n) n (W - (w + 1)) rows a (1 + 2 * k) new g e (window (dynamics S m h n) n (run_state (dim S) k H)) (status (dim S) k H') X.row_left) ∙ sym (rw (v, z)) ∙ I.rest;
-      }
+  -- the rows with that of a window more
+  abbrev with_new : List Float → List Float
+  with_new new = put_mid place (place + width - place) rows new
 
-  pub measuring_refused : (ε : LyapunovError) → H.progress.outcome ≡ Refused ε → MeasuredWindows S m k h n W H₀ rows₀ H rows
-  unfolding measured_from flat_rows
-  measuring_refused ε v = record { rows_left = sym (rw v) ∙ I.rest; bounded = all_measured_up }
+  -- the part of the rows that is lent for a new one
+  abbrev old : List Float
+  old = take (place + width - place) (drop place rows)
 
-  pub measuring_end : W ≤ w → MeasuredWindows S m k h n W H₀ rows₀ H rows
-  unfolding measured_from measured flat_rows
-  measuring_end l = record { rows_left = sym (go (status (dim S) k H)) ∙ I.rest; bounded = all_measured_up }
-    where
-      go : (o : Status) → written rows a (measured_from (dynamics S m h n) n (W - w) o) ≡ recorded rows o
-      go (ok c) = let z : W - w ≡ 0 = omega arith in rw z
-      go (refused r) = refl
+  module _ (l : w < c.windows) (g : c.windows * width ≤ length rows) {x t ns new : List Float} (e : length new ≡ length old) where
+    further : (r : Result Progress RefusedRun) → MeasuredWindow S m c H old x t ns new r
+        → (let M = dynamics S m c.step_size c.steps_per_window in
+        written (with_new new) (place + width) (measured_from M c.steps_per_window (c.windows - (w + 1)) (status (dim S) c.top_k x t ns r)) ≡ written rows₀ 0 (windows_from S m c H₀))
+    unfolding measured
+    further r X =
+        let z : c.windows - w ≡ suc (c.windows - (w + 1)) = omega arith in
+        let M = dynamics S m c.step_size c.steps_per_window in
+        let room : place + width ≤ length rows = omega (arith, vector_fits w c.windows width l) in
+        sym (one_more M c.steps_per_window (c.windows - (w + 1)) rows place width new room (e ∙ part_many rows place width room) (window M c.steps_per_window (run_state (dim S) c.top_k H)) (status (dim S) c.top_k x t ns r) X.row_left) ∙ sym (rw z) ∙ I.rest
+
+    pub measuring_next : {p : Progress} → MeasuredWindow S m c H old x t ns new (Ok p) → SameLengths H (held x t ns p) → Measuring S m c H₀ rows₀ (w + 1) (held x t ns p) (with_new new)
+    unfolding measured_from
+    measuring_next X s =
+        let y : (w + 1) * width ≡ place + width = rw (add-one w, suc-mul w width) in
+        record {
+          fits = fits_kept I.fits s (bounded_up (omega arith) (omega arith) (X.bounded (limit + limit + w) (limit + w) I.fits.bounded));
+          bounded = λ a b x. bounded_up (omega arith) (omega arith) (X.bounded (a + w) (b + w) (I.bounded a b x));
+          rest = rw y (further _ X);
+        }
+
+    pub measuring_refused : {r : RefusedRun} → MeasuredWindow S m c H old x t ns new (Err r) → MeasuredWindows S m c H₀ rows₀ x t ns (with_new new) (Err r)
+    unfolding measured_from flat_rows
+    measuring_refused X = record { rows_left = further _ X; bounded = λ a b x. tt }
+
+  pub measuring_end : w ≡ c.windows → MeasuredWindows S m c H₀ rows₀ H.state H.tangents H.norms rows (Ok H.progress)
+  unfolding measured flat_rows
+  measuring_end l =
+      let z : c.windows - w ≡ 0 = omega arith in
+      record { rows_left = sym (rw z) ∙ I.rest; bounded = λ a b x. bounded_up (omega arith) (omega arith) (I.bounded a b x) }

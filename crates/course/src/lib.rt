@@ -7,87 +7,59 @@
 
 ghost use Rattle.std.specs.Prelude.{◌*◌, ◌≤◌, ◌+◌, length};
 ghost use Rattle.benettin.specs.Estimate.{limit};
-ghost use Rattle.totals.specs.Progress.{held};
+ghost use Rattle.totals.specs.Progress.{held, carried};
 ghost use Rattle.progress.specs.UnderWay as Under;
 ghost use Rattle.course.specs.Course as Course;
 
-use error::Outcome;
+use benettin::{BenettinConfig, RefusedRun};
 use system::System;
 use totals::Progress;
 
-// The warm-up windows, if nothing is refused yet.
+// The warm-up windows of the settings, up to the first that is refused. This loop and that of `measure` stay apart: over a
+// closure, which would be lent the slices of both, the contract would be longer than the loops.
 pub fn warm_up(
     system: System,
     matrix: &[f64],
     state: &mut [f64],
     tangents: &mut [f64],
-    norms: &mut [f64],
-    k: usize,
-    h: f64,
-    n: u64,
-    windows: u64,
-    from: Progress,
-) -> Progress
-    requires { Under.Fits system matrix.now k h n limit limit (held state.old tangents.old norms.old from) × (windows ≤ limit) }
-    ensures { Course.WarmedUp system matrix.now k h n windows (held state.old tangents.old norms.old from)
-        (held state.new tangents.new norms.new result) }
+    norms: &mut [f64; 32],
+    config: BenettinConfig,
+    progress: &mut Progress,
+) -> Result<(), RefusedRun>
+    requires { Under.Fits system matrix.now config limit limit (held state.old tangents.old norms.old progress.old) × (config.transient_windows ≤ limit) }
+    ensures { Course.WarmedUp system matrix.now config (held state.old tangents.old norms.old progress.old)
+        state.new tangents.new norms.new (carried progress.new result) }
 {
-    let mut p = from;
-    let mut w: u64 = 0;
-    while w < windows {
-        let v = p.outcome;
-        let Outcome::Accepted = v else {
-            return p;
-        };
-        p = progress::window(system, matrix, state, tangents, norms, k, h, n, p);
-        w += 1;
+    for _ in 0..config.transient_windows {
+        progress::window(system, matrix, state, tangents, norms, config, progress)?;
     }
-    p
+    Ok(())
 }
 
-// The measured windows, if nothing is refused yet: each is lent its row of the rows slice.
+// The measured windows of the settings, up to the first that is refused: each is lent its row of the rows slice.
 pub fn measure(
     system: System,
     matrix: &[f64],
     state: &mut [f64],
     tangents: &mut [f64],
-    norms: &mut [f64],
+    norms: &mut [f64; 32],
     rows: &mut [f64],
-    k: usize,
-    h: f64,
-    n: u64,
-    windows: u64,
-    from: Progress,
-) -> Progress
-    requires { Under.Fits system matrix.now k h n (limit + limit) limit (held state.old tangents.old norms.old from) × (windows ≤ limit)
-        × (windows * (1 + 2 * k) ≤ length rows.old) }
-    ensures { Course.MeasuredWindows system matrix.now k h n windows (held state.old tangents.old norms.old from) rows.old
-        (held state.new tangents.new norms.new result) rows.new }
+    config: BenettinConfig,
+    progress: &mut Progress,
+) -> Result<(), RefusedRun>
+    requires { Under.Fits system matrix.now config (limit + limit) limit (held state.old tangents.old norms.old progress.old) × (config.windows ≤ limit)
+        × (config.windows * (1 + 2 * config.top_k) ≤ length rows.old) }
+    ensures { Course.MeasuredWindows system matrix.now config (held state.old tangents.old norms.old progress.old) rows.old
+        state.new tangents.new norms.new rows.new (carried progress.new result) }
 {
-    let width = 1 + 2 * k;
-    let mut p = from;
-    let mut w: u64 = 0;
-    let mut a = 0;
-    while w < windows {
-        let v = p.outcome;
-        let Outcome::Accepted = v else {
-            return p;
-        };
+    let width = 1 + 2 * config.top_k;
+    for w in 0..config.windows {
+        let a = w as usize * width;
         let e = a + width;
-        p = progress::measured_window(
-            system,
-            matrix,
-            state,
-            tangents,
-            norms,
-            &mut rows[a..e],
-            k,
-            h,
-            n,
-            p,
-        );
-        w += 1;
-        a = e;
+        let row = &mut rows[a..e];
+        progress::measured_window(
+            system, matrix, state, tangents, norms, row, config, progress,
+        )?;
     }
-    p
+    Ok(())
 }

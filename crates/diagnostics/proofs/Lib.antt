@@ -1,6 +1,5 @@
 -- The theorems on the definitions of specs/ (Order, Range, OrderedCopy), and what the proofs cite.
 pub mod Validation
-pub mod Insertion
 pub mod Loops
 pub mod Order
 pub mod Sums

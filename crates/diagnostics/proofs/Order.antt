@@ -2,19 +2,25 @@
 use mathlib.Core.Path.{◌≡◌, refl, sym, ap, ◌∙◌, subst}
 use mathlib.Core.Bool.{Bool, true, false, not, cond}
 use mathlib.Core.List.{List, [], ◌∷◌}
-use Prim.Native.Nat.{ℕ, ◌+◌, ◌-◌, ◌^◌, ◌≤◌, ◌<◌}
+use Prim.Native.Nat.{ℕ, suc, ◌+◌, ◌-◌, ◌^◌, ◌≤◌, ◌<◌}
 use native.Mathlib.Nat.{le_refl, le_trans, le_of_lt, le_antisymm}
+use native.Mathlib.Numerals.{add-one}
 use native.Mathlib.Omega.{arith}
 use lib.Dec.{T, ltb, eqb, ltb→lt, nltb→le}
-use lib.ListN.{length}
-use lib.Ieee.{Float, binary64, to_bits, of_bits, fits}
+use lib.ListN.{length, get_or}
+use lib.Ieee.{Float, nan, binary64, to_bits, of_bits, fits}
 use lib.Ieee.Bits.{of_bits-to_bits, to_bits-lt}
 use borrow.Author.Tests.{eq-eqb, eqb-true}
+use Rattle.std.specs.List.{sum_by}
+use Rattle.std.specs.List.Sorted.{IsPermutation, IsSortedByKey}
+use Rattle.std.specs.Ordering.{is_lt, nat_cmp}
+use Rattle.std.proofs.lemmas.Bool.Decides.{nat_tests}
+use Rattle.std.proofs.lemmas.List.Sums.{sum_by-cons}
+use Rattle.std.proofs.lemmas.List.Sorted.{sum_by-IsPermutation}
 use Rattle.floats.specs.TotalOrder.{rank}
 use Rattle.floats.proofs.Sign.{either}
 use Rattle.diagnostics.specs.Sorting.{upper, lower, insert, insert_each, descending, All, Descending, one_if, occurrences, SameFloats, Binary64}
 use Rattle.diagnostics.specs.OrderedCopy.{CopyInOrder, OnlyCopy}
-use Rattle.diagnostics.proofs.Insertion.{insert_length}
 
 -- ---- what holds of every entry still does in the ordered copy
 module _ (P : Float → Type 0) where
@@ -66,6 +72,11 @@ unfolding descending
 descending_ordered xs = insert_each_descending [] xs tt
 
 -- ---- as many entries, and the same floats equally often
+insert_length : (x : Float) (ys : List Float) → length (insert x ys) ≡ suc (length ys)
+unfolding insert
+insert_length x [] = refl
+insert_length x (y ∷ ys) = ap suc (insert_length (lower x y) ys)
+
 insert_each_length : (done xs : List Float) → length (insert_each done xs) ≡ length done + length xs
 unfolding insert_each
 insert_each_length done [] = omega arith
@@ -192,3 +203,29 @@ copy_in_order xs = (descending_ordered xs, descending_same xs)
 
 pub descending_only : OnlyCopy
 descending_only xs ys f g d s = one_order ys (descending xs) g (descending_all (λ x. T (fits binary64 x)) xs f) d (descending_ordered xs) (λ b. s b ∙ sym (descending_same xs b))
+
+-- ---- the library's sort: neighbours that do not rise, and the same floats
+binary64_from : (xs : List Float) → ((i : ℕ) → T (fits binary64 (get_or xs i nan))) → Binary64 xs
+binary64_from [] f = tt
+binary64_from (x ∷ xs) f = (f 0, binary64_from xs (λ i. f (suc i)))
+
+not_less : (a b : ℕ) → is_lt (nat_cmp a b) ≡ false → b ≤ a
+not_less a b h = grind (arith, nat_tests)
+
+descending_from : (ys : List Float) → IsSortedByKey rank (λ a b. nat_cmp b a) ys → Descending ys
+descending_from [] h = tt
+descending_from (x ∷ []) h = (tt, tt)
+descending_from (x ∷ y ∷ ys) h =
+    let first : rank y ≤ rank x = not_less (rank x) (rank y) (h 0 nan (omega arith) (omega arith)) in
+    let d = descending_from (y ∷ ys) (λ k e l m. rw (add-one k) (rw (add-one (suc k)) at (h (suc k) e (omega arith) (omega arith)))) in
+    ((first, all_below (rank y) (rank x) ys first d.0), d)
+
+occurrences_sum : (b : ℕ) (xs : List Float) → occurrences b xs ≡ sum_by (count b) xs
+occurrences_sum b [] = occurrences_none b
+occurrences_sum b (x ∷ xs) = let h = occurrences_sum b xs in let e = occurrences_cons b x xs in let s = sum_by-cons (count b) x xs in omega arith
+
+pub sorted_is : (xs ys : List Float) → ((i : ℕ) → T (fits binary64 (get_or xs i nan))) → ((i : ℕ) → T (fits binary64 (get_or ys i nan)))
+    → IsPermutation xs ys → IsSortedByKey rank (λ a b. nat_cmp b a) ys → ys ≡ descending xs
+sorted_is xs ys f g p s =
+    descending_only xs ys (binary64_from xs f) (binary64_from ys g) (descending_from ys s)
+    (λ b. occurrences_sum b ys ∙ sum_by-IsPermutation (count b) xs ys p ∙ sym (occurrences_sum b xs))

@@ -1,34 +1,25 @@
--- What is refused, case by case, and what is known of a list that is not.
+-- What is known of a list of which nothing is refused.
 use mathlib.Core.Path.{◌≡◌, refl, sym, ap, ◌∙◌}
 use mathlib.Core.Bool.{Bool, true, false, cond}
 use mathlib.Core.List.{List, [], ◌∷◌}
 use mathlib.Core.Option.{Option, none, some, map, some-ne-none}
-use Prim.Native.Nat.{ℕ, suc, ◌≤◌, ◌<◌}
+use Prim.Native.Nat.{ℕ, suc, ◌≤◌}
 use native.Mathlib.Omega.{arith}
 use lib.Dec.{T, ltb, eqb}
 use lib.ListN.{length}
 use lib.Ieee.{Float}
 use lib.Ieee.Bits.{is_true}
 use lib.Ieee.Scale.{finite}
-use borrow.Author.Tests.{lt-ltb, le-ltb, eq-eqb, ne_eqb, eqb-false, ltb-false}
+use borrow.Author.Tests.{le-ltb, ne_eqb, eqb-false, ltb-false}
 use Rattle.error.specs.declared.Refusal.{Refusal}
-use Rattle.error.specs.declared.Outcome.{Outcome}
-use Rattle.error.specs.Refusal.{refuse, reported, value}
+use Rattle.error.specs.Refusal.{refuse, value}
 use Rattle.floats.specs.Finite.{first_not_finite}
 use Rattle.floats.proofs.Zero.{of_true}
 use Rattle.diagnostics.specs.Sorting.{All}
 use Rattle.diagnostics.specs.Rates.{refused_for, unless}
 
 module _ (xs : List Float) where
-  pub refused_none : length xs ≡ 0 → some (refuse 20 0) ≡ refused_for xs
-  unfolding refused_for
-  refused_none h = rw (eq-eqb (length xs) 0 h)
-
-  pub refused_many : 256 < length xs → some (refuse 21 0) ≡ refused_for xs
-  unfolding refused_for
-  refused_many h = rw (ne_eqb (length xs) 0 (omega arith), lt-ltb 256 (length xs) h)
-
-  pub refused_rest : (length xs ≡ 0 → ⊥) → length xs ≤ 256 → map (refuse 22) (first_not_finite xs) ≡ refused_for xs
+  refused_rest : (length xs ≡ 0 → ⊥) → length xs ≤ 256 → map (refuse 22) (first_not_finite xs) ≡ refused_for xs
   unfolding refused_for
   refused_rest n h = rw (ne_eqb (length xs) 0 n, le-ltb 256 (length xs) h)
 
@@ -52,9 +43,9 @@ module _ (xs : List Float) where
       go false true f a b c h = absurd (some-ne-none (refuse 21 0) h)
       go false false (some i) a b c h = absurd (some-ne-none (refuse 22 i) h)
 
--- the answer that an outcome of the tests gives
-pub answered : (xs : List Float) (tested o : Outcome) (x : Float) → reported tested ≡ refused_for xs → tested ≡ o → unless (reported o) x ≡ unless (refused_for xs) x
-answered xs tested o x h e = ap (λ (p : Option Refusal). unless p x) (ap reported (sym e) ∙ h)
+-- a list of which nothing is refused has at most 256 exponents
+pub few : (xs : List Float) → refused_for xs ≡ none → length xs ≤ 256
+few xs h = (accepted xs h).few
 
 -- a value is given only where nothing is refused, and it is the one asked for
 pub given : (p : Option Refusal) (x d : Float) → unless p x ≡ value d → (p ≡ none) × (x ≡ d)

@@ -2,17 +2,10 @@
 use Rattle.std.specs.Prelude.{cond, List, ltb, eqb, length, Float}
 use Rattle.std.proofs.Math.Option.{Option, none, some, map}
 use Rattle.error.specs.declared.Refusal.{Refusal}
-use Rattle.error.specs.Refusal.{Answer, value, refused, refusal, refuse}
+use Rattle.error.specs.Refusal.{Answer, value, refused, refuse}
 use Rattle.floats.specs.Finite.{first_not_finite}
-use Rattle.diagnostics.specs.declared.Diagnostic.{Diagnostic}
-use Rattle.diagnostics.specs.declared.Diagnostic.TheVariants.{Value, Refused}
 use Rattle.diagnostics.specs.Dimension.{kaplan_yorke}
 use Rattle.diagnostics.specs.Entropy.{kolmogorov_sinai}
-
--- what a diagnostic of the code answers
-abbrev pub answer : Diagnostic → Answer Float
-answer (Value x) = value x
-answer (Refused e) = refused (refusal e)
 
 -- 20 none, 21 over 256, 22 not finite with the first index
 unfoldable pub refused_for : List Float → Option Refusal

@@ -6,56 +6,32 @@
 // the count. specs/Marked.antt has document 01's examples.
 #![tactic(auto)]
 
-ghost use Rattle.std.specs.Prelude.{◌≡◌, ◌++◌, ◌+◌, ◌≤◌, ◌<◌, length, take, drop};
-ghost use Rattle.error.specs.Refusal.{reported};
+ghost use Rattle.std.specs.Prelude.{◌≡◌, ◌≤◌, ◌<◌, length};
+ghost use Rattle.error.specs.Refusal.{reported, answer};
 ghost use Rattle.floats.specs.Arithmetic.{zero⁺};
 ghost use Rattle.diagnostics.specs.Sorting as Sorting;
 ghost use Rattle.diagnostics.specs.Dimension as Dimension;
 ghost use Rattle.diagnostics.specs.Entropy as Entropy;
 ghost use Rattle.diagnostics.specs.Rates as Rates;
 
-use error::{LyapunovError, Outcome};
-use floats::Position;
+use error::LyapunovError;
+use std::cmp::Reverse;
 
-#[derive(Clone, Copy)]
-pub enum Diagnostic {
-    Value(f64),
-    Refused(LyapunovError),
-}
-
-fn validate_exponents(exponents: &[f64]) -> Outcome
+#[tactic(auto, unfolding(crate::specs::Rates::refused_for))]
+fn validate_exponents(exponents: &[f64]) -> Result<(), LyapunovError>
     ensures { reported result ≡ Rates.refused_for exponents.now }
 {
     let count = exponents.len();
     if count == 0 {
-        return Outcome::Refused(LyapunovError::NoExponents);
+        return Err(LyapunovError::NoExponents);
     }
     if count > 256 {
-        return Outcome::Refused(LyapunovError::TooManyExponents);
+        return Err(LyapunovError::TooManyExponents);
     }
-    let position = floats::first_not_finite(exponents);
-    match position {
-        Position::At(i) => Outcome::Refused(LyapunovError::NonFiniteExponent(i)),
-        Position::Nowhere => Outcome::Accepted,
+    match floats::first_not_finite(exponents) {
+        Some(i) => Err(LyapunovError::NonFiniteExponent(i)),
+        None => Ok(()),
     }
-}
-
-// Inserts x into the first n entries, which are in order. The lower of two entries is carried on.
-fn insert(xs: &mut [f64], n: usize, x: f64)
-    requires { n < length xs.old }
-    ensures { xs.new ≡ Sorting.insert x (take n xs.old) ++ drop (n + 1) xs.old }
-{
-    let mut lower = x;
-    let mut k = 0;
-    while k < n {
-        let y = xs[k];
-        if floats::total_cmp(y) < floats::total_cmp(lower) {
-            xs[k] = lower;
-            lower = y;
-        }
-        k += 1;
-    }
-    xs[n] = lower;
 }
 
 // Puts the entries of xs into sorted, in descending order.
@@ -63,14 +39,12 @@ fn sort_descending(sorted: &mut [f64], xs: &[f64])
     requires { length sorted.old ≡ length xs.now }
     ensures { sorted.new ≡ Sorting.descending xs.now }
 {
-    let mut i = 0;
-    while i < xs.len() {
-        insert(sorted, i, xs[i]);
-        i += 1;
-    }
+    sorted.copy_from_slice(xs);
+    sorted.sort_unstable_by_key(|x| Reverse(floats::total_cmp(*x)));
 }
 
-// Adds the entries in order until the next sum would be below 0.
+// Adds the entries in order until the next sum would be below 0. The loop yields its index by break, a form that the
+// project keeps.
 fn walk(sorted: &[f64]) -> f64
     requires { length sorted.now ≤ 256 }
     ensures { result ≡ Dimension.walk 0 zero⁺ sorted.now }
@@ -99,6 +73,7 @@ fn walk(sorted: &[f64]) -> f64
 }
 
 // The dimension, with the ordered copy made in a slice of the same length.
+#[tactic(auto, unfolding(crate::specs::Dimension::kaplan_yorke))]
 fn dimension_in(sorted: &mut [f64], exponents: &[f64]) -> f64
     requires sorted_len { length sorted.old ≡ length exponents.now }
     requires sorted_len_bound { length sorted.old ≤ 256 }
@@ -108,42 +83,35 @@ fn dimension_in(sorted: &mut [f64], exponents: &[f64]) -> f64
     walk(sorted)
 }
 
-pub fn kaplan_yorke_dimension(exponents: &[f64]) -> Diagnostic
-    ensures { Rates.answer result ≡ Rates.dimension exponents.now }
+#[tactic(auto, using(crate::proofs::Validation::few), unfolding(crate::specs::Rates::dimension))]
+pub fn kaplan_yorke_dimension(exponents: &[f64]) -> Result<f64, LyapunovError>
+    ensures { answer result ≡ Rates.dimension exponents.now }
 {
-    let outcome = validate_exponents(exponents);
-    match outcome {
-        Outcome::Refused(error) => Diagnostic::Refused(error),
-        Outcome::Accepted => {
-            let count = exponents.len();
-            let mut sorted = [0.0; 256];
-            Diagnostic::Value(dimension_in(&mut sorted[..count], exponents))
-        }
-    }
+    validate_exponents(exponents)?;
+    let count = exponents.len();
+    let mut sorted = [0.0; 256];
+    Ok(dimension_in(&mut sorted[..count], exponents))
 }
 
 // The sum of the entries above 0, which starts at -0.0 (document 02, d).
+#[tactic(auto, using(crate::proofs::Loops::sum_steps), unfolding(crate::specs::Entropy::kolmogorov_sinai))]
 fn sum_positive(xs: &[f64]) -> f64
     ensures { result ≡ Entropy.kolmogorov_sinai xs.now }
 {
     let mut sum = -0.0;
-    let mut i = 0;
-    while i < xs.len() {
-        let x = xs[i];
-        if 0.0 < x {
-            sum = sum + x;
+    for x in xs {
+        if 0.0 < *x {
+            sum += *x;
         }
-        i += 1;
     }
     sum
 }
 
-pub fn kolmogorov_sinai_entropy(exponents: &[f64]) -> Diagnostic
-    ensures { Rates.answer result ≡ Rates.entropy exponents.now }
+// The tests and then the sum: with the dimension it has the tests in common, which are one function.
+#[tactic(auto, unfolding(crate::specs::Rates::entropy))]
+pub fn kolmogorov_sinai_entropy(exponents: &[f64]) -> Result<f64, LyapunovError>
+    ensures { answer result ≡ Rates.entropy exponents.now }
 {
-    let outcome = validate_exponents(exponents);
-    match outcome {
-        Outcome::Refused(error) => Diagnostic::Refused(error),
-        Outcome::Accepted => Diagnostic::Value(sum_positive(exponents)),
-    }
+    validate_exponents(exponents)?;
+    Ok(sum_positive(exponents))
 }

@@ -1,7 +1,7 @@
 -- What the tests of a hand-in decide.
 use Prim.Native.Nat.{ℕ, ◌+◌, ◌*◌, ◌≤◌, ◌<◌}
 use native.Mathlib.Omega.{arith}
-use mathlib.Core.Path.{◌≡◌, refl, sym, ap, ap₂, ◌∙◌}
+use mathlib.Core.Path.{◌≡◌, sym, ap, ap₂, ◌∙◌}
 use mathlib.Core.Bool.{true}
 use mathlib.Core.List.{List}
 use mathlib.Core.Option.{Option, none, some}
@@ -9,19 +9,19 @@ use lib.ListN.{length, get_or}
 use lib.Seq.{sets, get_or-drop}
 use lib.Ieee.{Float}
 use lib.Ieee.Scale.{finite}
-use Rattle.error.specs.Refusal.{refusal, reported}
+use Rattle.std.specs.Prelude.{Result, Ok, Err}
+use Rattle.error.specs.Refusal.{refusal}
 use Rattle.error.specs.Tests.{first_failing}
-use Rattle.error.specs.declared.LyapunovError.{LyapunovError}
-use Rattle.error.specs.declared.Outcome.{Outcome}
-use Rattle.error.specs.declared.Outcome.TheVariants.{Accepted, Refused}
 use Rattle.error.specs.declared.Refusal.{Refusal}
 use Rattle.error.proofs.Tests.{both_passed}
 use Rattle.floats.proofs.Sets.{drop_behind}
 use Rattle.system.specs.System.{dim}
-use Rattle.benettin.specs.Run.{RunState, Status}
+use Rattle.benettin.specs.Run.{Status}
 use Rattle.benettin.specs.Estimate.{Input, limit, set_up_tests, start_tests}
+use Rattle.benettin.specs.declared.RefusedRun.{RefusedRun}
 use Rattle.benettin.proofs.RunTests.{set_up, start_passed}
-use Rattle.totals.specs.Progress.{status_of}
+use Rattle.totals.specs.Progress.{held, run_state, status}
+use Rattle.totals.specs.declared.Progress.{Progress}
 use Rattle.store.specs.Slots as Slots
 use Rattle.store.specs.Slots.{saved}
 use Rattle.store.proofs.Laid.{few_entries}
@@ -39,6 +39,13 @@ module _ (i : Input) (K : ℕ) where
   pub handed_passed : none ≡ first_failing (hand_in_tests i K) → handed_in i K ≡ drawn_in i K
   unfolding handed_in
   handed_passed e = ap (λ (o : Option Refusal). handed_in_past o i K) (sym e)
+
+  module _ (M : Memory) where
+    pub refused_in : {r : Refusal} → some r ≡ first_failing (hand_in_tests i K) → served M (rejected r) ≡ admitted_in (handed_in i K) M
+    refused_in e = ap (λ (h : HandedIn). admitted_in h M) (sym (handed_refused _ e))
+
+    pub past_tests : none ≡ first_failing (hand_in_tests i K) → admitted_in (drawn_in i K) M ≡ admitted_in (handed_in i K) M
+    past_tests e = ap (λ (h : HandedIn). admitted_in h M) (sym (handed_passed e))
 
 -- ---- past the tests
 
@@ -66,17 +73,18 @@ has_room i K e =
     let k : K ≤ 16 = omega (arith, t.1, s.dimension_within) in
     record { above = omega (arith, t.0, s.dimension_above); entries = d; few = k; all = few_entries K (length i.state) k d; state = t.0; steps = s.steps_limit; clock = s.clock }
 
-module _ (i : Input) (K : ℕ) (M : Memory) where
+module _ (i : Input) (K : ℕ) (M : Memory) (x t ns : List Float) {r : Result Progress RefusedRun} (e : status (dim i.system) K x t ns r ≡ drawn i K) where
   -- the draw is refused
-  pub drawn_refused : (ε : LyapunovError) (v : Outcome) (c : RunState) → v ≡ Refused ε → status_of (reported v) c ≡ drawn i K → served M (rejected (refusal ε)) ≡ admitted_in (drawn_in i K) M
-  drawn_refused ε v c e f = ap (λ (x : Status). admitted_in (taken_at i K x) M) (sym (ap (λ (u : Outcome). status_of (reported u) c) e) ∙ f)
+  pub drawn_refused : {ε : RefusedRun} → r ≡ Err ε → served M (rejected (refusal ε.error)) ≡ admitted_in (drawn_in i K) M
+  drawn_refused f = ap (λ (s : Status). admitted_in (taken_at i K s) M) (sym (ap (status (dim i.system) K x t ns) f) ∙ e)
 
   -- or the run is taken
-  pub taken_is : {R : Slots.Memory} {f : List Float} {q q' : List ℕ} (v : Outcome) (c : RunState) (name : ℕ) → v ≡ Accepted → status_of (reported v) c ≡ drawn i K → name ≡ least_free (names_in M.queue) → R ≡ saved name name c M.runs
-      → f ≡ laid_settings name (job i K c) M.settings → q ≡ laid_counts name (job i K c) M.queue → q' ≡ lengthened name q → served (memory R f q') (named name) ≡ admitted_in (drawn_in i K) M
+  pub taken_is : {R : Slots.Memory} {f : List Float} {q q' : List ℕ} (p : Progress) (name : ℕ) → r ≡ Ok p → name ≡ least_free (names_in M.queue)
+      → (let c = run_state (dim i.system) K (held x t ns p) in R ≡ saved name name c M.runs → f ≡ laid_settings name (job i K c) M.settings → q ≡ laid_counts name (job i K c) M.queue → q' ≡ lengthened name q → served (memory R f q') (named name) ≡ admitted_in (drawn_in i K) M)
   unfolding taken_in
-  taken_is {R} {f} {q} {q'} v c name a s e eR ef eq eq' =
+  taken_is {R} {f} {q} {q'} p name a n eR ef eq eq' =
+      let c = run_state (dim i.system) K (held x t ns p) in
       ap (λ (r : Slots.Memory). served (memory r f q') (named name)) eR
       ∙ ap₂ (λ (g : List Float) (u : List ℕ). served (memory (saved name name c M.runs) g u) (named name)) ef (eq' ∙ ap (lengthened name) eq)
-      ∙ ap (λ (n : ℕ). served (taken_in n (job i K c) M) (named n)) e
-      ∙ ap (λ (x : Status). admitted_in (taken_at i K x) M) (sym (ap (λ (u : Outcome). status_of (reported u) c) a) ∙ s)
+      ∙ ap (λ (n : ℕ). served (taken_in n (job i K c) M) (named n)) n
+      ∙ ap (λ (s : Status). admitted_in (taken_at i K s) M) (sym (ap (status (dim i.system) K x t ns) a) ∙ e)

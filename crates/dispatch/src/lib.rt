@@ -2,8 +2,8 @@
 //
 // The dispatcher is memory that the caller lends, four arrays whose types say their lengths. The contracts are equations with
 // specs/Served.antt of crate dispatching, which says what a call answers and leaves in memory, whatever the memory holds;
-// specs/Dispatched.antt there states what follows over lists of calls. front.rt has the turn of the run in front. Crate schedule has the
-// queue, crate store the slots of the runs, crate progress the windows.
+// specs/Dispatched.antt there states what follows over lists of calls. front.rt has the turn of the run in front. Crate
+// schedule has the queue, crate store the slots of the runs, crate progress the windows.
 #![tactic(auto)]
 
 mod front;
@@ -15,38 +15,48 @@ ghost use Rattle.store.specs.Slots as Slots;
 ghost use Rattle.turns.specs.Turn.{slices};
 ghost use Rattle.turns.specs.Dispatcher as Dispatcher;
 ghost use Rattle.schedule.specs.Schedule as Schedule;
-ghost use Rattle.schedule.specs.Promises as Contracts;
 ghost use Rattle.dispatching.specs.Served as Served;
 ghost use Rattle.dispatch.specs.Replies as Replies;
+ghost use Rattle.dispatch.specs.declared.AdmissionError.TheVariants.{Refused};
 
-use benettin::{BenettinConfig, SpectrumEstimate};
-use error::{LyapunovError, Outcome};
-use floats::Position;
+use benettin::{BenettinConfig, RefusedRun, SpectrumEstimate};
+use error::LyapunovError;
 use system::System;
 
-// Whether a run is taken: under which name, or why it is not. There is no room where eight runs are unfinished.
+// Why a run is not taken: eight are unfinished already, or a test refuses it.
 #[derive(Clone, Copy)]
-pub enum Admission {
-    Named(usize),
+pub enum AdmissionError {
     Full,
     Refused(LyapunovError),
 }
 
-// What a turn did to the run with a name, if there was one: nothing, since what was lent does not fit; one window; its last one.
-#[derive(Clone, Copy)]
-pub enum Stage {
-    Nobody,
-    Unfit(usize),
-    UnderWay(usize),
-    Over(usize),
+impl From<LyapunovError> for AdmissionError {
+    ghost from_gives = { λ error given. given ≡ Refused error };
+
+    fn from(error: LyapunovError) -> AdmissionError {
+        AdmissionError::Refused(error)
+    }
 }
 
-// A turn, with how many windows of its run are begun. The estimate is the run's answer where it is over.
+// What a turn did: nothing, since nobody is next; nothing to the run with a name, since what was lent does not fit; one window
+// of it; or its last one, with the run's answer. `begun` counts the windows of the run that are begun.
 #[derive(Clone, Copy)]
-pub struct TurnTaken {
-    pub stage: Stage,
-    pub begun: u64,
-    pub estimate: SpectrumEstimate,
+pub enum TurnTaken {
+    Nobody,
+    Unfit {
+        name: usize,
+        begun: u64,
+        error: LyapunovError,
+    },
+    UnderWay {
+        name: usize,
+        begun: u64,
+    },
+    Over {
+        name: usize,
+        begun: u64,
+        answer: Result<SpectrumEstimate, RefusedRun>,
+    },
 }
 
 // ---- an empty dispatcher
@@ -61,15 +71,15 @@ pub fn empty(queue: &mut [u64; 65])
 
 // A run that passed its tests is drawn and laid down under a new name, unless it is refused.
 fn take_in(
-    floats: &mut [f64],
-    counts: &mut [u64],
-    settings: &mut [f64],
-    queue: &mut [u64],
+    floats: &mut [f64; 2568],
+    counts: &mut [u64; 152],
+    settings: &mut [f64; 32],
+    queue: &mut [u64; 65],
     system: System,
     time: f64,
     state: &[f64],
     config: BenettinConfig,
-) -> Admission
+) -> Result<usize, AdmissionError>
     requires { Replies.TakesIn (Estimate.input system [] time state.now config) config.top_k (Schedule.memory (Slots.memory floats.old counts.old) settings.old queue.old) }
     ensures { Served.served (Schedule.memory (Slots.memory floats.new counts.new) settings.new queue.new) (Replies.admission result)
         ≡ Served.admitted_in (Replies.drawn_in (Estimate.input system [] time state.now config) config.top_k) (Schedule.memory (Slots.memory floats.old counts.old) settings.old queue.old) }
@@ -79,20 +89,9 @@ fn take_in(
     let kd = k * d;
     let mut tangents = [0.0; 256];
     let mut norms = [0.0; 32];
-    let begun = progress::begin(
-        state,
-        &mut tangents[..kd],
-        &mut norms,
-        k,
-        config.step_size,
-        config.steps_per_window,
-        time,
-        config.seed,
-    );
-    let outcome = begun.outcome;
-    if let Outcome::Refused(e) = outcome {
-        return Admission::Refused(e);
-    }
+    let begun = progress::begin(state, &mut tangents[..kd], &mut norms, config, time).map_err(
+        |refused| refused.error,
+    )?;
     let name = schedule::new_name(queue);
     store::save(
         floats,
@@ -103,33 +102,30 @@ fn take_in(
         &tangents[..kd],
         &norms,
         k,
-        begun,
+        &begun,
     );
     schedule::save_settings(settings, queue, name, system, config);
     schedule::enqueue(queue, name);
-    Admission::Named(name)
+    Ok(name)
 }
 
 // A run is handed in to a dispatcher with room for it.
 fn admit(
-    floats: &mut [f64],
-    counts: &mut [u64],
-    settings: &mut [f64],
-    queue: &mut [u64],
+    floats: &mut [f64; 2568],
+    counts: &mut [u64; 152],
+    settings: &mut [f64; 32],
+    queue: &mut [u64; 65],
     system: System,
     time: f64,
     state: &[f64],
     config: BenettinConfig,
-) -> Admission
-    requires { Contracts.Sized (Schedule.memory (Slots.memory floats.old counts.old) settings.old queue.old) × (get_or queue.old 56 0 < 8) }
+) -> Result<usize, AdmissionError>
+    requires { get_or queue.old 56 0 < 8 }
     ensures { Served.served (Schedule.memory (Slots.memory floats.new counts.new) settings.new queue.new) (Replies.admission result)
         ≡ Served.received_in false (Estimate.input system [] time state.now config) config.top_k (Schedule.memory (Slots.memory floats.old counts.old) settings.old queue.old) }
 {
-    let set_up = benettin::validation::validate_set_up(system, time, config, config.windows);
-    let start = benettin::validation::validate_start(system, state, config.top_k);
-    if let Outcome::Refused(e) = error::first_refusal(set_up, start) {
-        return Admission::Refused(e);
-    }
+    benettin::validation::validate_set_up(system, time, config, config.windows)?;
+    benettin::validation::validate_start(system, state, config.top_k)?;
     take_in(floats, counts, settings, queue, system, time, state, config)
 }
 
@@ -143,20 +139,20 @@ pub fn hand_in(
     time: f64,
     state: &[f64],
     config: BenettinConfig,
-) -> Admission
+) -> Result<usize, AdmissionError>
     ensures { Served.served (Schedule.memory (Slots.memory floats.new counts.new) settings.new queue.new) (Replies.admission result)
         ≡ Served.serve_in (Schedule.memory (Slots.memory floats.old counts.old) settings.old queue.old) (Dispatcher.hand_in (Estimate.input system [] time state.now config) config.top_k) }
 {
     if queue[56] < 8 {
         admit(floats, counts, settings, queue, system, time, state, config)
     } else {
-        Admission::Full
+        Err(AdmissionError::Full)
     }
 }
 
 // ---- whose turn it is
 
-pub fn next(queue: &[u64; 65]) -> Position
+pub fn next(queue: &[u64; 65]) -> Option<usize>
     ensures { index result ≡ Schedule.next_in queue.now }
 {
     schedule::next(queue)
@@ -180,18 +176,18 @@ pub fn turn(
         (Served.serve_in (Schedule.memory (Slots.memory floats.old counts.old) settings.now queue.old)
         (Dispatcher.take_turn matrix.now (slices rows.old exponents.old final_state.old))) }
 {
-    match schedule::front(floats, counts, settings, queue) {
-        Position::At(slot) => front::turn_of(
-            floats,
-            counts,
-            settings,
-            queue,
-            slot,
-            matrix,
-            rows,
-            exponents,
-            final_state,
-        ),
-        Position::Nowhere => front::nobody(),
-    }
+    let Some(slot) = schedule::front(floats, counts, settings, queue) else {
+        return TurnTaken::Nobody;
+    };
+    front::turn_of(
+        floats,
+        counts,
+        settings,
+        queue,
+        slot,
+        matrix,
+        rows,
+        exponents,
+        final_state,
+    )
 }

@@ -1,7 +1,5 @@
 -- What is stated of a dispatcher's exchanges holds of those over lent memory.
-use mathlib.Core.Path.{◌≡◌, sym, subst}
-use mathlib.Core.List.{List, []}
-use Rattle.turns.specs.Dispatcher.{Exchange, exchanges}
+use mathlib.Core.Path.{sym, subst}
 use Rattle.turns.proofs.Alone as Alone
 use Rattle.turns.proofs.Unfinished.{least_names}
 use Rattle.turns.proofs.Fair as Fair

@@ -3,18 +3,16 @@ use Prim.Native.Nat.{ℕ, suc, ◌+◌, ◌*◌, ◌≤◌, ◌<◌}
 use native.Mathlib.Omega.{arith}
 use mathlib.Core.Path.{◌≡◌, refl, sym, subst, ◌∙◌}
 use mathlib.Core.Bool.{Bool, true, false}
-use mathlib.Core.List.{List, [], ◌++◌}
+use mathlib.Core.List.{List, []}
 use mathlib.Core.Option.{Option, none, some}
 use borrow.Author.Tests.{ltb-true}
 use lib.Dec.{ltb}
-use lib.ListN.{length, drop, get_or, replicate}
-use lib.Seq.{take-length}
+use lib.ListN.{length}
 use lib.Ieee.{Float}
 use lib.Ieee.Scale.{finite}
 use Rattle.error.specs.Tests.{first_failing}
 use Rattle.error.specs.declared.Refusal.{Refusal}
 use Rattle.error.proofs.Tests.{behind, both_passed}
-use Rattle.floats.proofs.Sets.{drop_replicate}
 use Rattle.system.specs.System.{dim}
 use Rattle.system.specs.declared.System.{System}
 use Rattle.system_validation.specs.Tests.{dimension_tests, time_tests}
@@ -31,8 +29,8 @@ use Rattle.benettin.proofs.RunTests.{settings_passed, count_passed, set_up, star
 use Rattle.benettin.proofs.Sizes.{Has, HasLogs, Holds, start_has, begin_has, window_has, accumulate_has}
 use Rattle.turns.specs.Turn.{hand_in_tests, Job, begun, job, HandedIn, taken, turned_down, taken_at, drawn, handed_in_past, handed_in, Slices, motion, warming, window_by, warmed_by, onward, Turned, under_way, over, left_by, turned_by, turn}
 use Rattle.schedule.specs.Schedule.{job_tests}
-use Rattle.store.proofs.Bounds.{Sound, front_at_most}
-use Rattle.store.proofs.Memory.{Fits}
+use Rattle.store.proofs.Bounds.{Sound}
+use Rattle.store.proofs.Memory.{Fits, sixteen_at_most}
 
 pub record Under (j : Job) : Type 0 where
   pub passed : none ≡ first_failing (job_tests j)
@@ -62,12 +60,6 @@ limits j U =
 pub under_fits : (j : Job) → Under j → Fits (dim j.system) j.rates j.now.totals.finished j.now
 under_fits j U = let l = limits j U in record { entries = l.entries; few = l.few; has = U.has; sized = U.made.made.directions }
 
-sixteen_at_most : (n : ℕ) (f : List ℕ) → length f ≤ 16 → ((i : ℕ) → get_or f i 0 ≤ n) → (i : ℕ) → get_or (sixteen f) i 0 ≤ n
-sixteen_at_most n f h g i =
-    let k = length f in
-    subst (λ (l : List ℕ). get_or (f ++ l) i 0 ≤ n) (drop_replicate {A = ℕ} 0 k 16 h)
-    (subst (λ (l : List ℕ). get_or (l ++ drop k (replicate 16 0)) i 0 ≤ n) (take-length f) (front_at_most n k 16 f g i))
-
 pub under_sound : (j : Job) → Under j → Sound j.now.totals.finished j.now.motion.steps (sixteen j.now.totals.faint) j.now.motion.time
 under_sound j U =
     let l = limits j U in
@@ -76,7 +68,7 @@ under_sound j U =
     record {
       windows = omega (arith, U.windows, l.windows);
       steps = omega (arith, m.steps, b);
-      faint = sixteen_at_most (2 * limit) j.now.totals.faint (omega (arith, U.has.has.faint, l.few)) (λ k. omega (arith, m.faint k, b));
+      faint = sixteen_at_most (2 * limit) j.now.totals.faint (λ k. omega (arith, m.faint k, b));
       clock = m.clock;
     }
 

@@ -1,13 +1,9 @@
 -- What is done to a dispatcher's memory: a run that is laid down or put back is there, all other runs stay as they were, and the names of the queue are those that are due.
 use Prim.Native.Nat.{ℕ, suc, ◌+◌, ◌-◌, ◌*◌, ◌≤◌, ◌<◌}
-use native.Mathlib.Nat.{mul-le-mul_left}
 use native.Mathlib.Omega.{arith}
 use mathlib.Core.Path.{◌≡◌, refl, sym, ap, ap₂, ◌∙◌}
-use mathlib.Core.Bool.{Bool, true, false}
-use mathlib.Core.Logic.{◌⊎◌, inl, inr, ◌≢◌}
+use mathlib.Core.Logic.{◌≢◌}
 use mathlib.Core.List.{List, [], ◌∷◌, ◌++◌}
-use borrow.Author.Tests.{leb-true, leb-false}
-use lib.Dec.{leb}
 use lib.ListN.{length, take, drop, get_or, set, replicate, length-set, length-append, length-drop, length-replicate}
 use lib.Seq.{sets, length-sets, take_at, take-take, take-suc-set, drop-drop, drop-set-lt, drop-set-add, get_or-take, get_or-drop, get_or-set_same, get_or-set_other}
 use lib.Ieee.{Float, nan}
@@ -21,24 +17,13 @@ use Rattle.benettin.specs.Run.{RunState}
 use Rattle.turns.specs.Turn.{Job}
 use Rattle.store.specs.Slots.{tag_at, stood_at}
 use Rattle.store.proofs.Laid.{few_entries}
-use Rattle.store.proofs.Memory.{Same, same_tag, same_run, saved_sized, saved_same, saved_run, saved_tag}
+use Rattle.store.proofs.Memory.{slots_apart, Same, same_tag, same_run, saved_sized, saved_same, saved_run, saved_tag}
 use Rattle.store.proofs.Writes.{get_inside, apart}
 use Rattle.schedule.specs.Schedule.{Memory, names_in, rotated, shortened, lengthened, system_at, job_at, laid_settings, laid_counts, taken_in, put_back, taken_out}
 use Rattle.schedule.specs.Promises.{Sized}
 use Rattle.dispatching.proofs.Going.{Under, under_fits, under_sound, moved_to}
 
 -- ---- a run that stays as it was
-
--- two slots have no place in common
-slots_apart : (s i j : ℕ) → i ≢ j → (s * i + s ≤ s * j) ⊎ (s * j + s ≤ s * i)
-slots_apart s i j n = go (leb i j) refl
-  where
-    up : (a b : ℕ) → a < b → s * a + s ≤ s * b
-    up a b h = let g : s * (a + 1) ≤ s * b = mul-le-mul_left s (omega arith) in omega (arith, g)
-
-    go : (t : Bool) → leb i j ≡ t → (s * i + s ≤ s * j) ⊎ (s * j + s ≤ s * i)
-    go true e = inl (up i j (omega (arith, leb-true i j e, n)))
-    go false e = inr (up j i (leb-false i j e))
 
 -- its slot, its settings and its counts
 pub record Kept (k : ℕ) (m m' : Memory) : Type 0 where
@@ -159,7 +144,7 @@ module _ (q : List ℕ) (l : length q ≡ 65) where
 
 module _ (n : ℕ) (j : Job) (m : Memory) (U : Under j) (S : Sized m) (h : n < 8) where
   abbrev seven : List ℕ
-  seven = (numbers j.system).kind ∷ dim j.system ∷ j.rates ∷ j.steps ∷ j.windows ∷ j.warm_up ∷ j.warmed ∷ []
+  seven = let x = numbers j.system in x.kind ∷ x.dimension ∷ j.rates ∷ j.steps ∷ j.windows ∷ j.warm_up ∷ j.warmed ∷ []
 
   abbrev four : List Float
   four = let x = numbers j.system in j.step_size ∷ x.p0 ∷ x.p1 ∷ x.p2 ∷ []
@@ -224,7 +209,7 @@ module _ (n : ℕ) (j : Job) (m : Memory) (U : Under j) (S : Sized m) (h : n < 8
       let warm_up = count (7 * n + 5) 5 refl (omega arith) in
       let warmed = count (7 * n + 6) 6 refl (omega arith) in
       let x = numbers j.system in
-      let Z : system_at n m' ≡ system x.kind x.p0 x.p1 x.p2 (dim j.system) = λ t. system (kind t) (p₀ t) (p₁ t) (p₂ t) (size t) in
+      let Z : system_at n m' ≡ system x.kind x.p0 x.p1 x.p2 x.dimension = λ t. system (kind t) (p₀ t) (p₁ t) (p₂ t) (size t) in
       let Y : system_at n m' ≡ j.system = Z ∙ named j.system in
       let now : stood_at n (dim (system_at n m')) (job_at n m').rates m'.runs ≡ j.now =
       ap₂ (λ (e K : ℕ). stood_at n e K m'.runs) (ap dim Y) rates

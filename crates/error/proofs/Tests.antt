@@ -5,12 +5,18 @@ use mathlib.Core.Path.{◌≡◌, refl, sym, ap, ◌∙◌}
 use mathlib.Core.Bool.{Bool, true, false, cond}
 use mathlib.Core.List.{List, [], ◌∷◌, ◌++◌}
 use mathlib.Core.Option.{Option, none, some}
+use Rattle.std.specs.Prelude.{Result, Err}
+use Rattle.std.specs.Result.{IsErrAnd}
+use Rattle.std.proofs.lemmas.Result.{err_from_is_err_and}
 use Rattle.error.specs.Refusal.{refusal, reported}
 use Rattle.error.specs.Tests.{Test, first_failing, ◌else◌}
 use Rattle.error.specs.declared.LyapunovError.{LyapunovError}
-use Rattle.error.specs.declared.Outcome.{Outcome}
-use Rattle.error.specs.declared.Outcome.TheVariants.{Accepted, Refused}
 use Rattle.error.specs.declared.Refusal.{Refusal}
+
+-- ---- an error that `?` hands on
+
+pub handed_on : {A E : Type 0} (r : Result A E) {ε : E} → IsErrAnd r (λ e. e ≡ ε) → r ≡ Err ε
+handed_on r q = let p = err_from_is_err_and r q in p.1 ∙ ap Err p.2
 
 -- ---- one test
 
@@ -76,18 +82,11 @@ module _ (ts us : List Test) where
       go none b h = (refl, h)
       go (some r) b h = let z : ◌≡◌ {A = ℕ} 0 1 = cc in absurd (omega arith)
 
--- ---- the same of what the code answers
+-- ---- blocks of tests that the code makes
 
-module _ (ts : List Test) {r : Outcome} (e : reported r ≡ first_failing ts) where
-  pub accepted : r ≡ Accepted → none ≡ first_failing ts
-  accepted f = sym (ap reported f) ∙ e
-
-  pub refused : (us : List Test) (ε : LyapunovError) → r ≡ Refused ε → some (refusal ε) ≡ first_failing (ts ++ us)
-  refused us ε f = else_stop _ _ _ (sym (ap reported f) ∙ e) ∙ sym (first_append ts us)
-
--- of one test
-pub tested : (t : Test) {b : Bool} {o : Option Refusal} → o ≡ first_failing (record { passes = b; refusal = t.refusal } ∷ []) → b ≡ t.passes → o ≡ first_failing (t ∷ [])
-tested t e f = rw (← f) e
+-- what `?` answers where a block is refused, whatever stands behind it
+pub stopped : (ts us : List Test) {A : Type 0} (r : Result A LyapunovError) (ε : LyapunovError) → IsErrAnd r (λ e. e ≡ ε) → some (refusal ε) ≡ first_failing ts → reported r ≡ first_failing (ts ++ us)
+stopped ts us r ε q e = rw (handed_on r q) (else_stop _ _ _ e ∙ sym (first_append ts us))
 
 -- of two blocks
 pub chained : (ts us : List Test) {a b o : Option Refusal} → o ≡ (a else b) → a ≡ first_failing ts → b ≡ first_failing us → o ≡ first_failing (ts ++ us)

@@ -1,10 +1,8 @@
 -- Document 01, "Refusals by cause": the number and the place of each refusal. Definitions only.
-use Rattle.std.specs.Prelude.{ℕ}
+use Rattle.std.specs.Prelude.{ℕ, Result, Ok, Err}
 use Rattle.std.proofs.Math.Option.{Option, none, some}
 use Rattle.error.specs.declared.LyapunovError.{LyapunovError}
 use Rattle.error.specs.declared.LyapunovError.TheVariants.{ZeroTopK, InvalidStepSize, ZeroStepsPerWindow, ZeroWindows, CountAboveLimit, InvalidInitialTime, ZeroDimension, DimensionAboveLimit, MatrixMismatch, StateMismatch, NonFiniteInitialState, InvalidExponentCount, OutputTooShort, DegenerateTangent, InvalidWindowDuration, NonFiniteState, NonFiniteTangent, InvalidTime, TangentMismatch, NoExponents, TooManyExponents, NonFiniteExponent, IncompleteBytes, LogarithmDomain, TooFewCells, NoSuchNumber, StoreFull}
-use Rattle.error.specs.declared.Outcome.{Outcome}
-use Rattle.error.specs.declared.Outcome.TheVariants.{Accepted, Refused}
 use Rattle.error.specs.declared.Refusal.{Refusal}
 
 abbrev pub refuse : ℕ → ℕ → Refusal
@@ -40,10 +38,10 @@ refusal TooFewCells = refuse 25 0
 refusal NoSuchNumber = refuse 26 0
 refusal StoreFull = refuse 27 0
 
--- what an outcome reports: that nothing is refused, or what is
-abbrev pub reported : Outcome → Option Refusal
-reported Accepted = none
-reported (Refused e) = some (refusal e)
+-- what a result reports: that nothing is refused, or what is
+abbrev pub reported : {A : Type 0} → Result A LyapunovError → Option Refusal
+reported (Ok x) = none
+reported (Err e) = some (refusal e)
 
 -- the number of what is refused, 0 for none, and its place
 abbrev pub number_of : Option Refusal → ℕ
@@ -62,3 +60,8 @@ pub data Answer {a} (A : Type a) : Type a where
 abbrev pub refusal_in {a} : {A : Type a} → Answer A → Option Refusal
 refusal_in (value x) = none
 refusal_in (refused r) = some r
+
+-- what the code's result stands for
+abbrev pub answer : {A : Type 0} → Result A LyapunovError → Answer A
+answer (Ok x) = value x
+answer (Err e) = refused (refusal e)

@@ -2,15 +2,15 @@
 //
 // Every refusal of the library is a LyapunovError. specs/Refusal.antt gives each variant the number and the place that
 // document 01 gives it, and every contract that speaks of a refusal goes through that definition: start reading there.
-// specs/Tests.antt says what a list of tests refuses; `test` and `first_refusal` make such lists.
+// specs/Tests.antt says what a list of tests refuses; `test` makes one.
 #![tactic(auto)]
 
 ghost use Rattle.std.specs.Prelude.{◌≡◌, [], ◌∷◌};
 ghost use Rattle.error.specs.Refusal as Spec;
 ghost use Rattle.error.specs.Tests as Tests;
-ghost use Rattle.error.specs.Tests.{◌else◌};
 
-// A variant holds its place where document 01 or 02 gives it one. The source's names are kept where it has the variant.
+// A variant holds its place where document 01 or 02 gives it one: a number, as document 01 counts places, of an entry, a
+// direction, an output or a count. The source's names are kept where it has the variant.
 #[derive(Clone, Copy)]
 pub enum LyapunovError {
     ZeroTopK,
@@ -42,13 +42,6 @@ pub enum LyapunovError {
     StoreFull,
 }
 
-// What a call answers that may be refused and has no value to give.
-#[derive(Clone, Copy)]
-pub enum Outcome {
-    Accepted,
-    Refused(LyapunovError),
-}
-
 // A refusal's number and its place. `place` is document 01's own term: the index, direction or output that the refusal
 // points at, and 0 where none is stated.
 #[derive(Clone, Copy)]
@@ -57,74 +50,54 @@ pub struct Refusal {
     pub place: usize,
 }
 
-// Document 01's number of an error.
-pub fn number(error: LyapunovError) -> u64
-    ensures { result ≡ (Spec.refusal error).number }
-{
-    match error {
-        LyapunovError::ZeroTopK => 1,
-        LyapunovError::InvalidStepSize => 2,
-        LyapunovError::ZeroStepsPerWindow => 3,
-        LyapunovError::ZeroWindows => 4,
-        LyapunovError::CountAboveLimit(_p) => 5,
-        LyapunovError::InvalidInitialTime => 6,
-        LyapunovError::ZeroDimension => 7,
-        LyapunovError::DimensionAboveLimit => 8,
-        LyapunovError::MatrixMismatch => 9,
-        LyapunovError::StateMismatch => 10,
-        LyapunovError::NonFiniteInitialState(_p) => 11,
-        LyapunovError::InvalidExponentCount => 12,
-        LyapunovError::OutputTooShort(_p) => 13,
-        LyapunovError::DegenerateTangent(_p) => 14,
-        LyapunovError::InvalidWindowDuration => 15,
-        LyapunovError::NonFiniteState(_p) => 16,
-        LyapunovError::NonFiniteTangent(_p) => 17,
-        LyapunovError::InvalidTime => 18,
-        LyapunovError::TangentMismatch => 19,
-        LyapunovError::NoExponents => 20,
-        LyapunovError::TooManyExponents => 21,
-        LyapunovError::NonFiniteExponent(_p) => 22,
-        LyapunovError::IncompleteBytes => 23,
-        LyapunovError::LogarithmDomain => 24,
-        LyapunovError::TooFewCells => 25,
-        LyapunovError::NoSuchNumber => 26,
-        LyapunovError::StoreFull => 27,
+impl Refusal {
+    fn new(number: u64, place: usize) -> Refusal
+        ensures { result ≡ Spec.refuse number place }
+    {
+        Refusal { number, place }
     }
 }
 
-// Its place.
-pub fn place(error: LyapunovError) -> usize
-    ensures { result ≡ (Spec.refusal error).place }
-{
-    match error {
-        LyapunovError::CountAboveLimit(p) => p,
-        LyapunovError::NonFiniteInitialState(p) => p,
-        LyapunovError::OutputTooShort(p) => p,
-        LyapunovError::DegenerateTangent(p) => p,
-        LyapunovError::NonFiniteState(p) => p,
-        LyapunovError::NonFiniteTangent(p) => p,
-        LyapunovError::NonFiniteExponent(p) => p,
-        _ => 0,
+// Document 01's number of an error, and its place.
+impl From<LyapunovError> for Refusal {
+    ghost from_gives = { λ error refusal. refusal ≡ Spec.refusal error };
+
+    fn from(error: LyapunovError) -> Refusal {
+        match error {
+            LyapunovError::ZeroTopK => Refusal::new(1, 0),
+            LyapunovError::InvalidStepSize => Refusal::new(2, 0),
+            LyapunovError::ZeroStepsPerWindow => Refusal::new(3, 0),
+            LyapunovError::ZeroWindows => Refusal::new(4, 0),
+            LyapunovError::CountAboveLimit(p) => Refusal::new(5, p),
+            LyapunovError::InvalidInitialTime => Refusal::new(6, 0),
+            LyapunovError::ZeroDimension => Refusal::new(7, 0),
+            LyapunovError::DimensionAboveLimit => Refusal::new(8, 0),
+            LyapunovError::MatrixMismatch => Refusal::new(9, 0),
+            LyapunovError::StateMismatch => Refusal::new(10, 0),
+            LyapunovError::NonFiniteInitialState(p) => Refusal::new(11, p),
+            LyapunovError::InvalidExponentCount => Refusal::new(12, 0),
+            LyapunovError::OutputTooShort(p) => Refusal::new(13, p),
+            LyapunovError::DegenerateTangent(p) => Refusal::new(14, p),
+            LyapunovError::InvalidWindowDuration => Refusal::new(15, 0),
+            LyapunovError::NonFiniteState(p) => Refusal::new(16, p),
+            LyapunovError::NonFiniteTangent(p) => Refusal::new(17, p),
+            LyapunovError::InvalidTime => Refusal::new(18, 0),
+            LyapunovError::TangentMismatch => Refusal::new(19, 0),
+            LyapunovError::NoExponents => Refusal::new(20, 0),
+            LyapunovError::TooManyExponents => Refusal::new(21, 0),
+            LyapunovError::NonFiniteExponent(p) => Refusal::new(22, p),
+            LyapunovError::IncompleteBytes => Refusal::new(23, 0),
+            LyapunovError::LogarithmDomain => Refusal::new(24, 0),
+            LyapunovError::TooFewCells => Refusal::new(25, 0),
+            LyapunovError::NoSuchNumber => Refusal::new(26, 0),
+            LyapunovError::StoreFull => Refusal::new(27, 0),
+        }
     }
 }
 
 // One test, and what is refused where it fails.
-pub fn test(passes: bool, error: LyapunovError) -> Outcome
+pub fn test(passes: bool, error: LyapunovError) -> Result<(), LyapunovError>
     ensures { Spec.reported result ≡ Tests.first_failing (record { passes = passes; refusal = Spec.refusal error } ∷ []) }
 {
-    if passes {
-        Outcome::Accepted
-    } else {
-        Outcome::Refused(error)
-    }
-}
-
-// Tests behind tests, all of them made: what the first refuse, else what the second do.
-pub fn first_refusal(first: Outcome, second: Outcome) -> Outcome
-    ensures { Spec.reported result ≡ (Spec.reported first else Spec.reported second) }
-{
-    match first {
-        Outcome::Accepted => second,
-        Outcome::Refused(e) => Outcome::Refused(e),
-    }
+    if passes { Ok(()) } else { Err(error) }
 }

@@ -8,12 +8,11 @@ ghost use Rattle.benettin.specs.Validation as Validation;
 ghost use Rattle.totals.specs.Progress.{held};
 ghost use Rattle.estimator.specs.Estimates as Estimates;
 
-use benettin::{BenettinConfig, SpectrumEstimate};
-use error::Outcome;
+use benettin::{BenettinConfig, OutputLengths, RefusedRun, SpectrumEstimate};
 use system::System;
 use totals::Progress;
 
-// What a run comes to: its answer, and what it carries on.
+// What a run comes to that is not refused: its answer, and what it carries on.
 #[derive(Drop)]
 pub struct RunEnd {
     pub estimate: SpectrumEstimate,
@@ -26,47 +25,33 @@ pub fn complete(
     matrix: &[f64],
     state: &mut [f64],
     tangents: &mut [f64],
-    norms: &mut [f64],
+    norms: &mut [f64; 32],
     rows: &mut [f64],
     exponents: &mut [f64],
     final_state: &mut [f64],
     config: BenettinConfig,
     total: u64,
     from: Progress,
-) -> RunEnd
-    requires { Estimates.Completes system matrix.now config.top_k config.step_size config.steps_per_window config.windows total (held state.old tangents.old norms.old from)
+) -> Result<RunEnd, RefusedRun>
+    requires { Estimates.Completes system matrix.now config total (held state.old tangents.old norms.old from)
         rows.old exponents.old final_state.old }
-    ensures { Estimates.Completed system matrix.now config.top_k config.step_size config.steps_per_window config.windows total
-        (held state.old tangents.old norms.old from) rows.old exponents.old final_state.old result
-        (held state.new tangents.new norms.new result.progress) rows.new exponents.new final_state.new }
+    ensures { Estimates.Completed system matrix.now config total
+        (held state.old tangents.old norms.old from) rows.old exponents.old final_state.old
+        state.new tangents.new norms.new rows.new exponents.new final_state.new result }
 {
-    let k = config.top_k;
-    let h = config.step_size;
-    let n = config.steps_per_window;
-    let progress = course::measure(
+    let mut progress = from;
+    course::measure(
         system,
         matrix,
         state,
         tangents,
         norms,
         rows,
-        k,
-        h,
-        n,
-        config.windows,
-        from,
-    );
-    let estimate = totals::end(
-        state,
-        exponents,
-        final_state,
-        k,
-        h,
-        n,
-        total,
-        Progress { ..progress },
-    );
-    RunEnd { estimate, progress }
+        config,
+        &mut progress,
+    )?;
+    let estimate = progress.end(state, exponents, final_state, config, total);
+    Ok(RunEnd { estimate, progress })
 }
 
 // The run once the tests are passed.
@@ -76,33 +61,19 @@ fn run(
     time: f64,
     state: &mut [f64],
     tangents: &mut [f64],
-    norms: &mut [f64],
+    norms: &mut [f64; 32],
     rows: &mut [f64],
     exponents: &mut [f64],
     final_state: &mut [f64],
     config: BenettinConfig,
-) -> RunEnd
+) -> Result<RunEnd, RefusedRun>
     requires { Validation.Ready config.windows (Estimate.input system matrix.now time state.old config) config.top_k (Outputs.lengths_of rows.old exponents.old final_state.old)
-        × (length tangents.old ≡ config.top_k * length state.old) × (length norms.old ≡ 32) }
-    ensures { Estimates.RunDone (Estimate.input system matrix.now time state.old config) config.top_k rows.old exponents.old final_state.old result
-        (held state.new tangents.new norms.new result.progress) rows.new exponents.new final_state.new }
+        × (length tangents.old ≡ config.top_k * length state.old) }
+    ensures { Estimates.RunDone (Estimate.input system matrix.now time state.old config) config.top_k rows.old exponents.old final_state.old
+        state.new tangents.new norms.new rows.new exponents.new final_state.new result }
 {
-    let k = config.top_k;
-    let h = config.step_size;
-    let n = config.steps_per_window;
-    let begun = progress::begin(state, tangents, norms, k, h, n, time, config.seed);
-    let ready = course::warm_up(
-        system,
-        matrix,
-        state,
-        tangents,
-        norms,
-        k,
-        h,
-        n,
-        config.transient_windows,
-        begun,
-    );
+    let mut begun = progress::begin(state, tangents, norms, config, time)?;
+    course::warm_up(system, matrix, state, tangents, norms, config, &mut begun)?;
     complete(
         system,
         matrix,
@@ -114,7 +85,7 @@ fn run(
         final_state,
         config,
         config.windows,
-        ready,
+        begun,
     )
 }
 
@@ -126,35 +97,21 @@ pub fn run_in(
     time: f64,
     state: &[f64],
     config: BenettinConfig,
-    moving: &mut [f64],
-    tangents: &mut [f64],
-    norms: &mut [f64],
+    moving: &mut [f64; 16],
+    tangents: &mut [f64; 256],
+    norms: &mut [f64; 32],
     rows: &mut [f64],
     exponents: &mut [f64],
     final_state: &mut [f64],
-) -> RunEnd
-    requires { (length moving.old ≡ 16) × (length tangents.old ≡ 256) × (length norms.old ≡ 32) }
-    ensures { Estimates.Ran (Estimate.input system matrix.now time state.now config) config.top_k rows.old exponents.old final_state.old result
-        moving.new tangents.new norms.new rows.new exponents.new final_state.new }
+) -> Result<RunEnd, RefusedRun>
+    ensures { Estimates.Ran (Estimate.input system matrix.now time state.now config) config.top_k rows.old exponents.old final_state.old
+        moving.new tangents.new norms.new rows.new exponents.new final_state.new result }
 {
-    if let Outcome::Refused(e) = benettin::validation::validate(
-        system,
-        matrix,
-        time,
-        state,
-        config,
-        config.windows,
-        rows.len(),
-        exponents.len(),
-        final_state.len(),
-    ) {
-        let estimate = totals::answer::refused(e, 0, 0);
-        let progress = totals::fresh(Outcome::Refused(e), time);
-        return RunEnd { estimate, progress };
-    }
+    let lengths = OutputLengths::of(rows, exponents, final_state);
+    benettin::validation::validate(system, matrix, time, state, config, config.windows, lengths)?;
     let d = state.len();
     let kd = config.top_k * d;
-    totals::answer::copy_to(&mut moving[..d], state);
+    moving[..d].copy_from_slice(state);
     run(
         system,
         matrix,
@@ -179,7 +136,7 @@ pub fn estimate_spectrum_at(
     rows: &mut [f64],
     exponents: &mut [f64],
     final_state: &mut [f64],
-) -> SpectrumEstimate
+) -> Result<SpectrumEstimate, RefusedRun>
     ensures { Outputs.Meets (Estimate.input system matrix.now time state.now config) config.top_k
         (Outputs.call rows.old exponents.old final_state.old (Outputs.observed result rows.new exponents.new final_state.new)) }
 {
@@ -198,8 +155,8 @@ pub fn estimate_spectrum_at(
         rows,
         exponents,
         final_state,
-    );
-    done.estimate
+    )?;
+    Ok(done.estimate)
 }
 
 // Estimates the leading spectrum from time zero.
@@ -211,7 +168,7 @@ pub fn estimate_spectrum(
     rows: &mut [f64],
     exponents: &mut [f64],
     final_state: &mut [f64],
-) -> SpectrumEstimate
+) -> Result<SpectrumEstimate, RefusedRun>
     ensures { Outputs.Meets (Estimate.input system matrix.now zero⁺ state.now config) config.top_k
         (Outputs.call rows.old exponents.old final_state.old (Outputs.observed result rows.new exponents.new final_state.new)) }
 {
@@ -238,10 +195,11 @@ pub fn estimate_largest(
     rows: &mut [f64],
     exponents: &mut [f64],
     final_state: &mut [f64],
-) -> SpectrumEstimate
+) -> Result<SpectrumEstimate, RefusedRun>
     ensures { Outputs.Meets (Estimate.input system matrix.now zero⁺ state.now (Estimate.settings 1 step_size steps_per_window windows 0 Estimate.default_seed)) 1
         (Outputs.call rows.old exponents.old final_state.old (Outputs.observed result rows.new exponents.new final_state.new)) }
 {
+    // Not `BenettinConfig::new`, which makes tests that the run makes too.
     let config = BenettinConfig {
         top_k: 1,
         step_size,

@@ -4,7 +4,8 @@
 // left in rows, exponents and final state equal specs/Outputs.antt there, for every input. Its contract is `Meets`, the
 // definition of which specs/Refusals.antt there states demand 1 and specs/LeadingOutputs.antt demand 3. Crate course has the
 // loops over windows, progress the run under way that they go by (begin, window), and totals its end. The state, the
-// directions, their logarithms and squared lengths lie in arrays on the stack; nothing is allocated.
+// directions, their logarithms and squared lengths lie in arrays on the stack; nothing is allocated. Its arguments are the
+// source's, and the outputs are lent one by one, as C lends them.
 #![tactic(auto)]
 
 pub mod estimate;

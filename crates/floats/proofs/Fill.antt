@@ -2,10 +2,10 @@
 use Prim.Native.Nat.{ℕ, suc, ◌+◌, ◌≤◌, ◌<◌}
 use native.Mathlib.Numerals.{add-one}
 use native.Mathlib.Omega.{arith}
-use mathlib.Core.Path.{◌≡◌, sym, ◌∙◌}
+use mathlib.Core.Path.{◌≡◌, sym}
 use mathlib.Core.List.{List, ◌++◌, map, append-nil}
 use lib.ListN.{length, take, drop, get_or, set, drop_of_length-le, length-map}
-use lib.Seq.{take_all, take-suc, length-take-le, drop-cons, drop-set-lt, set_at, append_snoc, take-suc-set}
+use lib.Seq.{take_all, take-suc, length-take-le, drop-cons, set_at, append_snoc, take-suc-set}
 use lib.Ieee.{Float, nan}
 use Rattle.floats.proofs.Updated.{map_drop, map_at}
 
@@ -38,7 +38,3 @@ module _ (f : Float → Float) where
 
   pub map_end : (row values : List Float) (i : ℕ) → length row ≤ i → length values ≤ i → take i row ++ map f (drop i values) ≡ row
   map_end row values i h g = rw (map_drop f i values) (copy_end row (map f values) i h (rw length-map g))
-
-  pub map_own_next : (v : List Float) (i : ℕ) → i < length v
-      → take i v ++ map f (drop i v) ≡ take (i + 1) (set v i (f (get_or v i nan))) ++ map f (drop (i + 1) (set v i (f (get_or v i nan))))
-  map_own_next v i h = map_next v v i h h ∙ rw (drop-set-lt (i + 1) v i (f (get_or v i nan)) (omega arith))

@@ -1,17 +1,16 @@
--- What the test of a finite float says, and the loop over a slice.
+-- What the test of a finite float says, and the first entry that is not finite.
 use mathlib.Core.Path.{◌≡◌, refl, sym, ap, ◌∙◌}
-use mathlib.Core.Bool.{true, false, true≢false, false≢true}
-use mathlib.Core.List.{List}
+use mathlib.Core.Bool.{Bool, true, false, not, cond, true≢false, false≢true}
+use mathlib.Core.List.{List, [], ◌∷◌}
 use mathlib.Core.Option.{Option, none, some, map}
-use Prim.Native.Nat.{ℕ, suc, ◌+◌, ◌≤◌, ◌<◌}
-use native.Mathlib.Nat.{zero-add}
-use native.Mathlib.Numerals.{add-one}
+use Prim.Native.Nat.{ℕ, zero, suc, ◌+◌}
 use native.Mathlib.Omega.{arith}
-use lib.ListN.{length, drop, get_or, drop_of_length-le}
-use lib.Seq.{drop-cons}
 use lib.Ieee.{Float, nan, inf, fin, binary64, lt, neg, of_bits}
 use lib.Ieee.Scale.{finite}
-use Rattle.floats.specs.Finite.{first_not_finite}
+use Rattle.floats.specs.Finite.{first_not_finite, index}
+use Rattle.std.specs.List.{position_from}
+use Rattle.std.specs.Prelude as code
+use Rattle.std.specs.Prelude.{Some}
 
 -- the code's infinity
 pub infinity_is : of_bits binary64 0x7ff0_0000_0000_0000 ≡ inf false
@@ -41,31 +40,21 @@ tested_below x h = ap (λ (z : Float). lt z x) minus_infinity_is ∙ below_infin
 pub tested_not_below : (x : Float) → lt x (of_bits binary64 0x7ff0_0000_0000_0000) ≡ false → false ≡ finite x
 tested_not_below x h = not_below_infinity x (ap (lt x) (sym infinity_is) ∙ h)
 
--- ---- the loop: where the first i entries are finite, what is left decides
+-- ---- the first entry that is not finite, where std counts from i
 
-abbrev pub from : ℕ → List Float → Option ℕ
-from i xs = map (λ j. i + j) (first_not_finite (drop i xs))
+at_entry : (i : ℕ) (b : Bool) (r : code.Option ℕ) (o : Option ℕ) → index r ≡ map (λ j. j + (i + 1)) o → index (cond (not b) (Some i) r) ≡ map (λ j. j + i) (cond b (map suc o) (some zero))
+at_entry i true r none h = h
+at_entry i true r (some j) h = h ∙ ap (λ (n : ℕ). some n) (omega arith)
+at_entry i false r o h = ap (λ (n : ℕ). some n) (omega arith)
 
-module _ (xs : List Float) where
-  pub from_start : first_not_finite xs ≡ from 0 xs
-  from_start = go (first_not_finite xs)
-    where
-      go : (o : Option ℕ) → o ≡ map (λ j. 0 + j) o
-      go none = refl
-      go (some j) = rw zero-add
+counted : (i : ℕ) (xs : List Float) → index (position_from (λ x. not (finite x)) i xs) ≡ map (λ j. j + i) (first_not_finite xs)
+unfolding first_not_finite
+counted i [] = refl
+counted i (x ∷ xs) = at_entry i (finite x) _ _ (counted (i + 1) xs)
 
-  shifted : (i : ℕ) (o : Option ℕ) → map (λ j. i + j) (map suc o) ≡ map (λ j. suc i + j) o
-  shifted i none = refl
-  shifted i (some j) = ap (λ (n : ℕ). some n) (omega arith)
-
-  pub from_next : (i : ℕ) → i < length xs → finite (get_or xs i nan) ≡ true → from i xs ≡ from (i + 1) xs
-  unfolding first_not_finite
-  from_next i h f = rw (add-one, drop-cons xs i nan h, f) (shifted i (first_not_finite (drop (suc i) xs)))
-
-  pub from_here : (i : ℕ) → i < length xs → finite (get_or xs i nan) ≡ false → from i xs ≡ some i
-  unfolding first_not_finite
-  from_here i h f = rw (drop-cons xs i nan h, f) (ap (λ (n : ℕ). some n) (omega arith))
-
-  pub from_end : (i : ℕ) → length xs ≤ i → from i xs ≡ none
-  unfolding first_not_finite
-  from_end i h = rw (drop_of_length-le xs h)
+pub position_is : (xs : List Float) → index (position_from (λ x. not (finite x)) 0 xs) ≡ first_not_finite xs
+position_is xs = counted 0 xs ∙ same (first_not_finite xs)
+  where
+    same : (o : Option ℕ) → map (λ j. j + 0) o ≡ o
+    same none = refl
+    same (some j) = ap (λ (n : ℕ). some n) (omega arith)

@@ -2,7 +2,7 @@
 pub mod Zero
 pub mod Sign
 pub mod Finite
-pub mod Magnitude
+pub mod Rank
 pub mod Units
 pub mod Rounding
 pub mod Pattern
@@ -13,3 +13,4 @@ pub mod Parts
 pub mod Updated
 pub mod Fill
 pub mod Vector
+pub mod Magnitude

@@ -1,36 +1,14 @@
--- The code's magnitude, pattern and rank of one float.
+-- The code's magnitude of one float.
 use mathlib.Core.Path.{◌≡◌, refl, sym, ap, ◌∙◌}
 use mathlib.Core.Bool.{Bool, true, false, true≢false, false≢true}
-use Prim.Native.Nat.{ℕ, zero, suc, ◌+◌, ◌-◌, ◌*◌, ◌^◌, ◌≤◌, ◌<◌}
+use Prim.Native.Nat.{ℕ, zero, suc, ◌*◌, ◌^◌}
 use native.Mathlib.Omega.{arith}
 use lib.IntN.{ℤ, pos, negsuc}
 use lib.Dec.{T, eqb→eq}
-use lib.Ieee.{Float, nan, inf, fin, binary64, fits, eq, lt, ne, neg, of_bits, to_bits}
-use lib.Ieee.Compare.{differs_from_itself}
-use borrow.Author.Tests.{lt-ltb, le-ltb}
+use lib.Ieee.{Float, nan, inf, fin, binary64, fits, eq, lt, neg, of_bits}
 use Rattle.floats.specs.Arithmetic.{zero⁺}
 use Rattle.floats.specs.Magnitude.{magnitude}
-use Rattle.floats.specs.TotalOrder.{rank}
-use Rattle.floats.proofs.Zero.{of_true, zero_is, zero_equal, nonzero_differs, positive_not_below, minus_infinity_below, negative_below}
-
--- ---- a pattern
-nan_pattern : 0x7ff8_0000_0000_0000 ≡ to_bits binary64 nan
-unfolding to_bits
-nan_pattern = refl
-
-pub nan_bits : (x : Float) → ne x x ≡ true → 0x7ff8_0000_0000_0000 ≡ to_bits binary64 x
-nan_bits x h = nan_pattern ∙ ap (to_bits binary64) (sym (differs_from_itself x (of_true h)))
-
--- ---- the rank
-pub rank_clear : (x : Float) (b : ℕ) → b ≡ to_bits binary64 x → b < 2 ^ 63 → b + 2 ^ 63 ≡ rank x
-unfolding rank
-rank_clear x b e h = rw (← e) (rw (lt-ltb b (2 ^ 63) h) refl)
-
-pub rank_set : (x : Float) (b : ℕ) → b ≡ to_bits binary64 x → 2 ^ 63 ≤ b → 2 ^ 64 - 1 - b ≡ rank x
-unfolding rank
-rank_set x b e h = rw (← e) (rw (le-ltb b (2 ^ 63) h) refl)
-
--- ---- the magnitude
+use Rattle.floats.proofs.Zero.{zero_is, zero_equal, nonzero_differs, positive_not_below, minus_infinity_below, negative_below}
 
 -- a zero that the format holds has one exponent
 held_zero : (e : ℤ) (s : Bool) → T (fits binary64 (fin s zero e)) → e ≡ pos 0

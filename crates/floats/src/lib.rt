@@ -1,6 +1,7 @@
 // Binary64 values: tests on one float, the order of total_cmp, and the first entry of a slice that is not finite.
 //
-// Each function equals a definition of specs/ for every input. proofs/ holds the laws on the toolchain's model of
+// Each function equals a definition of specs/ for every input. They are written here, on comparisons and bits, a form that the
+// project keeps (document 01). proofs/ holds the laws on the toolchain's model of
 // IEEE 754 that the crates above cite: values in units of the smallest one (Units), bit patterns (Pattern), one value
 // has one form (OneForm), comparisons with zero (Zero), lists entry by entry (Updated) and vectors in a slice
 // (Vector). Start with specs/.
@@ -25,13 +26,6 @@ pub const EXPONENT_UNIT: u64 = 0x0010_0000_0000_0000;
 
 // 2^63, the sign in a bit pattern.
 pub const SIGN_BIT: u64 = 0x8000_0000_0000_0000;
-
-// Where in a slice, if anywhere.
-#[derive(Clone, Copy)]
-pub enum Position {
-    At(usize),
-    Nowhere,
-}
 
 pub fn is_finite(x: f64) -> bool
     ensures { result ≡ finite x }
@@ -83,16 +77,9 @@ pub fn total_cmp(x: f64) -> u64
     }
 }
 
-pub fn first_not_finite(xs: &[f64]) -> Position
+// Each caller has a refusal of its own for it: a test over that would be lent a closure, which is longer than the `match`.
+pub fn first_not_finite(xs: &[f64]) -> Option<usize>
     ensures { index result ≡ first_not_finite xs.now }
 {
-    let mut i = 0;
-    while i < xs.len() {
-        if is_finite(xs[i]) {
-            i += 1;
-        } else {
-            return Position::At(i);
-        }
-    }
-    Position::Nowhere
+    xs.iter().position(|x| !is_finite(*x))
 }

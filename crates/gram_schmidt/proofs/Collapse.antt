@@ -11,15 +11,14 @@ use lib.Dec.{ltb}
 use lib.IntN.{negsuc}
 use lib.Ieee.{Float, nan, inf, fin, up, down, below, level, lt, eq, le}
 use lib.Ieee.Scale.{finite}
-use Rattle.error.specs.Refusal.{value, refused, refusal}
+use Rattle.std.proofs.lemmas.Option.{some_pair_parts}
+use Rattle.std.specs.Prelude.{Option, Some, None, Result, Ok, Err}
+use Rattle.error.specs.Refusal.{value, refused, refusal, answer}
 use Rattle.error.specs.declared.LyapunovError.{LyapunovError}
 use Rattle.floats.specs.Arithmetic.{◌⊘◌, least_normal}
-use Rattle.ln.specs.Logarithm.{log, normal, logarithm, answer}
-use Rattle.ln.specs.declared.Logarithm.{Logarithm}
-use Rattle.ln.specs.declared.Logarithm.TheVariants.{Value, Refused}
+use Rattle.ln.specs.Logarithm.{log, normal, logarithm}
 use Rattle.gram_schmidt.specs.Orthonormalise.{Lengths, collapsed}
 use Rattle.gram_schmidt.specs.GramSchmidt.{normalised, divided}
-use Rattle.gram_schmidt.specs.declared.Normalised.TheVariants.{By, Collapsed}
 
 or_true : (a : Bool) → (a || true) ≡ true
 or_true true = refl
@@ -68,11 +67,14 @@ normal_held (fin s m e) h g = rw (total s (m * up e * down (negsuc 1021)) (1 * u
 
 -- ---- what is left of a direction, for any lengths
 
-chosen_divided : (b : Bool) (w u : List Float) (l₀ q₀ l q : Float) → cond b Collapsed (By l₀ q₀) ≡ By l q → (b ≡ false) × (cond b w u ≡ u) × (l ≡ l₀) × (q ≡ q₀)
-chosen_divided true w u l₀ q₀ l q e = let z : ◌≡◌ {A = ℕ} 0 1 = cc in absurd (omega arith)
-chosen_divided false w u l₀ q₀ l q e = (refl, refl, cc, cc)
+abbrev chosen : Bool → Float → Float → Option (Float × Float)
+chosen b l q = cond b None (Some (l, q))
 
-chosen_collapsed : (b : Bool) (w u : List Float) (l₀ q₀ : Float) → cond b Collapsed (By l₀ q₀) ≡ Collapsed → (b ≡ true) × (cond b w u ≡ w)
+chosen_divided : (b : Bool) (w u : List Float) (l₀ q₀ l q : Float) → chosen b l₀ q₀ ≡ Some (l, q) → (b ≡ false) × (cond b w u ≡ u) × (l ≡ l₀) × (q ≡ q₀)
+chosen_divided true w u l₀ q₀ l q e = let z : ◌≡◌ {A = ℕ} 0 1 = cc in absurd (omega arith)
+chosen_divided false w u l₀ q₀ l q e = let p = some_pair_parts _ _ _ _ e in (refl, refl, sym p.0, sym p.1)
+
+chosen_collapsed : (b : Bool) (w u : List Float) (l₀ q₀ : Float) → chosen b l₀ q₀ ≡ None → (b ≡ true) × (cond b w u ≡ w)
 chosen_collapsed true w u l₀ q₀ e = (refl, refl)
 chosen_collapsed false w u l₀ q₀ e = let z : ◌≡◌ {A = ℕ} 0 1 = cc in absurd (omega arith)
 
@@ -81,27 +83,27 @@ module _ (L : Lengths) (w : List Float) where
   by_norm = map (λ x. x ⊘ L.norm w) w
 
   -- what is known from the answer
-  pub was_divided : (l q : Float) → normalised L w ≡ By l q → (collapsed (L.norm w) ≡ false) × (divided L w ≡ by_norm) × (l ≡ L.log (L.norm w)) × (q ≡ L.report w)
+  pub was_divided : (l q : Float) → normalised L w ≡ Some (l, q) → (collapsed (L.norm w) ≡ false) × (divided L w ≡ by_norm) × (l ≡ L.log (L.norm w)) × (q ≡ L.report w)
   was_divided l q = chosen_divided (collapsed (L.norm w)) w by_norm (L.log (L.norm w)) (L.report w) l q
 
-  pub was_collapsed : normalised L w ≡ Collapsed → (collapsed (L.norm w) ≡ true) × (divided L w ≡ w)
+  pub was_collapsed : normalised L w ≡ None → (collapsed (L.norm w) ≡ true) × (divided L w ≡ w)
   was_collapsed = chosen_collapsed (collapsed (L.norm w)) w by_norm (L.log (L.norm w)) (L.report w)
 
   -- what is answered, r being the norm as it was computed
   module _ (r : Float) (e : r ≡ L.norm w) where
-    pub norm_collapsed : collapsed r ≡ true → (Collapsed ≡ normalised L w) × (w ≡ divided L w)
+    pub norm_collapsed : collapsed r ≡ true → (None ≡ normalised L w) × (w ≡ divided L w)
     norm_collapsed h = let g : collapsed (L.norm w) ≡ true = rw e at h in (rw g, rw g)
 
     pub norm_divided : (q l : Float) (ys : List Float) → collapsed r ≡ false → q ≡ L.report w → l ≡ L.log r → ys ≡ map (λ x. x ⊘ r) w
-        → (By l q ≡ normalised L w) × (ys ≡ divided L w)
+        → (Some (l, q) ≡ normalised L w) × (ys ≡ divided L w)
     norm_divided q l ys h f k m = let g : collapsed (L.norm w) ≡ false = rw e at h in (rw (g, k, f, e), rw (g, m, e))
 
 -- ---- what the logarithm answers
 
-pub log_value : (r l : Float) (y : Logarithm) → normal r ≡ true → answer y ≡ logarithm r → y ≡ Value l → l ≡ log r
+pub log_value : (r l : Float) (y : Result Float LyapunovError) → normal r ≡ true → answer y ≡ logarithm r → y ≡ Ok l → l ≡ log r
 log_value r l y h e f = let g : value l ≡ value (log r) = sym (ap answer f) ∙ e ∙ rw h in cc
 
-pub log_never : (r : Float) (y : Logarithm) (x : LyapunovError) → normal r ≡ true → answer y ≡ logarithm r → y ≡ Refused x → ⊥
+pub log_never : (r : Float) (y : Result Float LyapunovError) (x : LyapunovError) → normal r ≡ true → answer y ≡ logarithm r → y ≡ Err x → ⊥
 log_never r y x h e f =
     let g : refused (refusal x) ≡ value (log r) = sym (ap answer f) ∙ e ∙ rw h in
     let z : ◌≡◌ {A = ℕ} 0 1 = cc in

@@ -13,10 +13,10 @@ use lib.Seq.{sets, sets-eq, length-sets, drop-drop}
 use lib.Ieee.{Float}
 use borrow.Author.Tests.{eq-eqb, ne_eqb, lt-ltb, le-ltb}
 use borrow.Rule.Slice.PartMut.{put_mid}
+use Rattle.std.specs.Prelude as code
+use Rattle.std.specs.Prelude.{Some, None}
 use Rattle.gram_schmidt.specs.Orthonormalise.{Lengths, Basis, orthonormalise, with_direction, orthogonalise, collapsed}
 use Rattle.gram_schmidt.specs.GramSchmidt.{squared_length, cleared, normalised, divided, Orthonormalised, holds, collapse_refusal, stored, orthonormalised}
-use Rattle.gram_schmidt.specs.declared.Normalised.{Normalised}
-use Rattle.gram_schmidt.specs.declared.Normalised.TheVariants.{By, Collapsed}
 use Rattle.gram_schmidt.proofs.Loops.{orthogonalise_length, orthogonalise_twice_length}
 use Rattle.gram_schmidt.proofs.Collapse.{by_norm, was_divided, was_collapsed}
 use Rattle.error.specs.Refusal.{refuse}
@@ -74,7 +74,7 @@ module _ (L : Lengths) (d v : ℕ) (xs : List Float) (g : v * d + d ≤ length x
       (r, h ∙ ap (squared_length L.start) (cleared_part zs r))
 
   -- cleared, as zs has it, and then divided, as us has it
-  pub direction : (zs us : List Float) (r : Normalised) → zs ≡ sets xs (v * d) w
+  pub direction : (zs us : List Float) (r : code.Option (Float × Float)) → zs ≡ sets xs (v * d) w
       → (r ≡ normalised L (part (v * d) (v * d + d - v * d) zs)) × (us ≡ divided L (part (v * d) (v * d + d - v * d) zs))
       → (r ≡ normalised L w) × (put_mid (v * d) (v * d + d - v * d) zs us ≡ sets xs (v * d) (divided L w))
   direction zs us r q h =
@@ -149,7 +149,7 @@ module _ (L : Lengths) where
     pending_at = let e : n - v ≡ suc (n - (v + 1)) = omega arith in rw (e, drop-drop d (v * d) xs)
 
     -- as the code has it: ys is the slice with what became of this direction, and l and q are its numbers
-    pub iteration_by : (l q : Float) (ys : List Float) → normalised L c ≡ By l q → ys ≡ sets xs (v * d) (divided L c)
+    pub iteration_by : (l q : Float) (ys : List Float) → normalised L c ≡ Some (l, q) → ys ≡ sets xs (v * d) (divided L c)
         → pending d n xs norms v ≡ pending d n ys (set (set norms (n + v) q) v l) (v + 1)
     iteration_by l q ys e k =
         let s = was_divided L c l q e in
@@ -162,7 +162,7 @@ module _ (L : Lengths) where
         let back : chunks d (n - (v + 1)) (drop ((v + 1) * d) ys) ≡ ws = rw (y, a, drop_behind (v * d + d) xs (v * d) u (omega arith)) in
         pending_at ∙ rw (s.0, front, back, y, s.2, s.3) (from_next d n xs norms v c ws u _ _ _ m)
 
-    pub iteration_stop : (ys : List Float) → normalised L c ≡ Collapsed → ys ≡ sets xs (v * d) (divided L c)
+    pub iteration_stop : (ys : List Float) → normalised L c ≡ None → ys ≡ sets xs (v * d) (divided L c)
         → pending d n xs norms v ≡ holds (some (refuse 14 v)) ys norms
     iteration_stop ys e k =
         let s = was_collapsed L c e in

@@ -1,18 +1,17 @@
 -- Document 01, "Orthonormalise", called alone: its tests 7 and 13, then 14, and what the two slices hold afterwards. Definitions only.
-use Rattle.std.specs.Prelude.{ℕ, ◌*◌, ◌/◌, cond, List, [], map, eqb, ltb, length, Float}
+use Rattle.std.specs.Prelude as code
+use Rattle.std.specs.Prelude.{ℕ, ◌*◌, ◌/◌, cond, List, [], map, eqb, ltb, length, Float, Result, Some, None}
 use Rattle.std.proofs.Math.Option.{Option, none, some}
 use Rattle.std.proofs.lemmas.List.Edits.{sets}
 use Rattle.std.specs.Float.Ieee.{lt}
 use Rattle.error.specs.Refusal.{refuse, reported}
 use Rattle.error.specs.declared.Refusal.{Refusal}
-use Rattle.error.specs.declared.Outcome.{Outcome}
+use Rattle.error.specs.declared.LyapunovError.{LyapunovError}
 use Rattle.floats.specs.Arithmetic.{◌⊘◌, zero⁻, faint_limit}
 use Rattle.floats.specs.Vector.{dot_from, part, chunks, concat}
 use Rattle.sqrt.specs.SquareRoot.{root}
 use Rattle.ln.specs.Logarithm.{log}
 use Rattle.gram_schmidt.specs.Orthonormalise.{Lengths, Basis, orthonormalise, orthogonalise_twice, collapsed}
-use Rattle.gram_schmidt.specs.declared.Normalised.{Normalised}
-use Rattle.gram_schmidt.specs.declared.Normalised.TheVariants.{By, Collapsed}
 
 -- ---- lengths
 
@@ -46,8 +45,8 @@ abbrev pub cleared : Lengths → ℕ → ℕ → List Float → List Float
 cleared L d v xs = orthogonalise_twice L.start (chunks d v xs) (part (v * d) d xs)
 
 -- its logarithm and its report, unless it collapsed
-abbrev pub normalised : Lengths → List Float → Normalised
-normalised L w = cond (collapsed (L.norm w)) Collapsed (By (L.log (L.norm w)) (L.report w))
+abbrev pub normalised : Lengths → List Float → code.Option (Float × Float)
+normalised L w = cond (collapsed (L.norm w)) None (Some (L.log (L.norm w), L.report w))
 
 -- its entries divided by its norm, unless it collapsed
 abbrev pub divided : Lengths → List Float → List Float
@@ -83,5 +82,5 @@ orthonormalised L xs d norms =
     (stored n xs norms (orthonormalise L [] (chunks d n xs))))
 
 -- what the code's answer and its slices stand for
-abbrev pub observed : Outcome → List Float → List Float → Orthonormalised
+abbrev pub observed : Result Unit LyapunovError → List Float → List Float → Orthonormalised
 observed r xs o = holds (reported r) xs o

@@ -4,6 +4,9 @@
 // answer, and every float left in both slices. specs/Orthonormalise.antt has the operations on one direction after the
 // other, over how lengths are taken; the code takes them by `euclidean`. specs/Collapse.antt says what a collapse means
 // there: a squared length of 0 or one that is not finite.
+//
+// The second slice has the logarithms and then the squared lengths, as document 01 hands it over. The parts are lent all
+// directions with the place of one, and ask that it lies in the slice: no type of one parameter says that.
 #![tactic(auto)]
 
 ghost use Rattle.std.specs.Prelude.{◌≡◌, ◌+◌, ◌*◌, ◌≤◌, ◌<◌, map, length};
@@ -14,17 +17,10 @@ ghost use Rattle.gram_schmidt.specs.Orthonormalise.{subtract_projection, orthogo
 ghost use Rattle.gram_schmidt.specs.GramSchmidt as Spec;
 ghost use Rattle.gram_schmidt.specs.GramSchmidt.{squared_length, euclidean};
 
-use error::{LyapunovError, Outcome};
+use error::LyapunovError;
 
 // The zero that every sum starts from (document 02, d).
 const SUM_START: f64 = -0.0;
-
-// What becomes of a cleared direction: its logarithm and its squared length, or nothing.
-#[derive(Clone, Copy)]
-enum Normalised {
-    By(f64, f64),
-    Collapsed,
-}
 
 // The sum of a[i] * b[i], in index order.
 fn dot_disjoint<'a>(a: &'a [f64], b: &'a [f64]) -> f64
@@ -32,10 +28,8 @@ fn dot_disjoint<'a>(a: &'a [f64], b: &'a [f64]) -> f64
     ensures { result ≡ dot_from euclidean.start a.now b.now }
 {
     let mut s = SUM_START;
-    let mut i = 0;
-    while i < a.len() {
+    for i in 0..a.len() {
         s = s + a[i] * b[i];
-        i += 1;
     }
     s
 }
@@ -55,12 +49,10 @@ fn subtract_projection(
         × (result ≡ dot_from euclidean.start (part next d values.new) (part target d values.new)) }
 {
     let mut product = SUM_START;
-    let mut i = 0;
-    while i < d {
+    for i in 0..d {
         let x = values[target + i] - p * values[basis + i];
         values[target + i] = x;
         product = product + values[next + i] * x;
-        i += 1;
     }
     product
 }
@@ -74,14 +66,13 @@ fn orthogonalise_once(values: &mut [f64], v: usize, d: usize, first: f64, last: 
 {
     let target = v * d;
     let mut c = first;
-    let mut p = 0;
-    while p + 1 < v {
-        let basis = p * d;
-        let next = basis + d;
+    for p in 1..v {
+        let next = p * d;
+        let basis = next - d;
         c = subtract_projection(values, basis, next, target, d, c);
-        p += 1;
     }
-    subtract_projection(values, p * d, last, target, d, c)
+    let basis = target - d;
+    subtract_projection(values, basis, last, target, d, c)
 }
 
 // The direction at v * d, cleared twice of each earlier one. Answers its squared length.
@@ -105,34 +96,32 @@ fn orthogonalise(values: &mut [f64], v: usize, d: usize) -> f64
 fn divide(s: &mut [f64], by: f64)
     ensures { s.new ≡ map (λ x. x ⊘ by) s.old }
 {
-    let mut i = 0;
-    while i < s.len() {
-        s[i] = s[i] / by;
-        i += 1;
+    for x in s {
+        *x = *x / by;
     }
 }
 
-// A cleared direction is divided by its length, or it collapsed.
-fn normalise(s: &mut [f64], squared: f64) -> Normalised
+// A cleared direction is divided by its length: its logarithm and its squared length, or nothing where it collapsed.
+fn normalise(s: &mut [f64], squared: f64) -> Option<(f64, f64)>
     requires { squared ≡ squared_length euclidean.start s.old }
     ensures { (result ≡ Spec.normalised euclidean s.old) × (s.new ≡ Spec.divided euclidean s.old) }
 {
     let norm = sqrt::sqrt(squared);
     if norm <= f64::from_bits(floats::LEAST_NORMAL_BITS) {
-        return Normalised::Collapsed;
+        return None;
     }
     if norm < f64::from_bits(floats::INFINITY_BITS) {
-        let ln::Logarithm::Value(l) = ln::ln(norm) else {
-            return Normalised::Collapsed;
+        let Ok(log) = ln::ln(norm) else {
+            return None;
         };
         divide(s, norm);
-        return Normalised::By(l, squared);
+        return Some((log, squared));
     }
-    Normalised::Collapsed
+    None
 }
 
 // Direction v, in full: cleared twice, then divided.
-fn orthonormalise_at(tangents: &mut [f64], v: usize, d: usize) -> Normalised
+fn orthonormalise_at(tangents: &mut [f64], v: usize, d: usize) -> Option<(f64, f64)>
     requires { v * d + d ≤ length tangents.old }
     ensures { (result ≡ Spec.normalised euclidean (Spec.cleared euclidean d v tangents.old))
         × (tangents.new ≡ sets tangents.old (v * d) (Spec.divided euclidean (Spec.cleared euclidean d v tangents.old))) }
@@ -145,28 +134,26 @@ fn orthonormalise_at(tangents: &mut [f64], v: usize, d: usize) -> Normalised
 
 // Orthonormalises the directions of `dimension` entries that lie one after the other in `tangents`. `norms` takes their
 // logarithms, then their squared lengths.
-pub fn modified_gram_schmidt(tangents: &mut [f64], dimension: usize, norms: &mut [f64]) -> Outcome
+pub fn modified_gram_schmidt(
+    tangents: &mut [f64],
+    dimension: usize,
+    norms: &mut [f64],
+) -> Result<(), LyapunovError>
     ensures { Spec.observed result tangents.new norms.new ≡ Spec.orthonormalised euclidean tangents.old dimension norms.old }
 {
     if dimension == 0 {
-        return Outcome::Refused(LyapunovError::ZeroDimension);
+        return Err(LyapunovError::ZeroDimension);
     }
     let count = tangents.len() / dimension;
     if norms.len() / 2 < count {
-        return Outcome::Refused(LyapunovError::OutputTooShort(0));
+        return Err(LyapunovError::OutputTooShort(0));
     }
-    let mut v = 0;
-    while v < count {
-        match orthonormalise_at(tangents, v, dimension) {
-            Normalised::By(log, squared) => {
-                norms[count + v] = squared;
-                norms[v] = log;
-            }
-            Normalised::Collapsed => {
-                return Outcome::Refused(LyapunovError::DegenerateTangent(v));
-            }
-        }
-        v += 1;
+    for v in 0..count {
+        let Some((log, squared)) = orthonormalise_at(tangents, v, dimension) else {
+            return Err(LyapunovError::DegenerateTangent(v));
+        };
+        norms[count + v] = squared;
+        norms[v] = log;
     }
-    Outcome::Accepted
+    Ok(())
 }

@@ -1,13 +1,11 @@
--- Numbers and slices as C hands them over: a system by its number, a value that is written only where there is one, and what the orthonormaliser and a run return. Definitions only.
-use Rattle.std.specs.Prelude.{ℕ, ◌≡◌, cond, List, [], ◌∷◌, eqb, Float}
+-- Numbers and slices as C hands them over: a value that is written only where there is one, and what the orthonormaliser and a run return. Definitions only.
+use Rattle.std.specs.Prelude.{ℕ, ◌≡◌, List, [], ◌∷◌, Float}
 use Rattle.std.proofs.Math.Option.{Option}
 use Rattle.error.specs.Refusal.{Answer, value, refused, refusal_in, number_of, place_of}
 use Rattle.error.specs.Tests.{first_failing}
 use Rattle.error.specs.declared.Refusal.{Refusal}
 use Rattle.gram_schmidt.specs.GramSchmidt.{Orthonormalised}
 use Rattle.rk4.specs.Step.{Stepped}
-use Rattle.system.specs.declared.System.{System}
-use Rattle.system.specs.declared.System.TheVariants.{Lorenz, Rossler, VanDerPol, Linear, Lorenz96}
 use Rattle.benettin.specs.Run.{input_tests}
 use Rattle.benettin.specs.Estimate.{Input, problem}
 use Rattle.benettin.specs.Outputs.{Estimated, estimated}
@@ -19,15 +17,6 @@ use Rattle.calls.specs.Served.{Served, served}
 abbrev pub value_or : Float → Answer Float → Float
 value_or old (value y) = y
 value_or old (refused r) = old
-
--- a number that names no system names one of dimension 0, which is refused by 7
-abbrev pub system : ℕ → Float → Float → Float → ℕ → System
-system kind p₀ p₁ p₂ d =
-    cond (eqb kind 0) (Lorenz p₀ p₁ p₂)
-    (cond (eqb kind 1) (Rossler p₀ p₁ p₂)
-    (cond (eqb kind 2) (VanDerPol p₀)
-    (cond (eqb kind 3) (Linear d)
-    (cond (eqb kind 4) (Lorenz96 d p₀) (Linear 0)))))
 
 -- the number that is returned and the place that is written, of what is refused or not
 pub record Refuses (number place : ℕ) (o : Option Refusal) : Type 0 where

@@ -1,36 +1,35 @@
--- What a call that is refused at once, and a keep, come to.
+-- What a search for a slot comes to, and a call that is refused at once.
 use Prim.Native.Nat.{ℕ}
 use mathlib.Core.Path.{◌≡◌, sym, ap, ◌∙◌}
-use mathlib.Core.Option.{none, some}
+use mathlib.Core.Option.{Option, none, some}
+use native.Mathlib.Omega.{arith}
+use Rattle.std.specs.Prelude as code
+use Rattle.std.specs.Prelude.{Some, None, Result, Ok, Err}
+use Rattle.std.specs.Option.{ok_or}
 use Rattle.error.specs.Refusal.{refuse, refusal}
 use Rattle.error.specs.declared.LyapunovError.{LyapunovError}
-use Rattle.error.specs.declared.Refusal.{Refusal}
-use Rattle.benettin.specs.Run.{RunState, ok, course_of}
-use Rattle.benettin.specs.Estimate.{problem, input}
-use Rattle.benettin.specs.Outputs.{Estimated, outputs_from, observed, flat_rows}
-use Rattle.benettin.specs.declared.SpectrumEstimate.{SpectrumEstimate}
+use Rattle.floats.specs.Finite.{index}
+use Rattle.benettin.specs.Outputs.{Estimated, outputs_from, observed, unstarted, flat_rows}
 use Rattle.benettin.proofs.Reading.{none_faint}
-use Rattle.totals.specs.Progress.{refused_estimate}
-use Rattle.store.specs.Slots.{Memory, saved}
-use Rattle.calls.specs.Calls.{Brought, ran, turned_away, alone}
-use Rattle.calls.specs.Served.{served, keep_in}
+use Rattle.store.specs.Slots.{Memory}
+use Rattle.calls.specs.Calls.{Brought, ran, turned_away}
+use Rattle.calls.specs.Served.{served}
+
+-- ---- a search for a slot, whose failure is an error
+
+module _ (o : code.Option ℕ) {s : Option ℕ} (ε : LyapunovError) {r : Result ℕ LyapunovError} (e : index o ≡ s) (f : r ≡ ok_or o ε) where
+  pub found : {j : ℕ} → r ≡ Ok j → s ≡ some j
+  found {j} g = let h : o ≡ Some j = grind arith in sym e ∙ ap index h
+
+  pub missing : {δ : LyapunovError} → r ≡ Err δ → (s ≡ none) × (δ ≡ ε)
+  missing {δ} g = let h : o ≡ None = grind arith in (sym e ∙ ap index h, grind arith)
 
 -- ---- refused before any other test
 
-pub turned_away_is : (number : ℕ) (b : Brought) (ε : LyapunovError) {r : SpectrumEstimate} → r ≡ refused_estimate ε 0 0 → refusal ε ≡ refuse number 0
-    → observed r b.rows b.exponents b.final_state ≡ turned_away number b
+turned_away_is : (number : ℕ) (b : Brought) (ε : LyapunovError) → refusal ε ≡ refuse number 0 → observed (Err (unstarted ε)) b.rows b.exponents b.final_state ≡ turned_away number b
 unfolding outputs_from flat_rows
-turned_away_is number b ε e f = rw (e, f, none_faint b.rates)
+turned_away_is number b ε e = rw (e, none_faint b.rates)
 
--- ---- keeping
-
-module _ (j n : ℕ) (b : Brought) {x : Estimated} (m : Memory) (e : x ≡ alone b) where
-  pub refused_left : (q : Refusal) → x.refusal ≡ some q → served (ran x) m ≡ keep_in (some j) n b m
-  refused_left q f =
-      let g : (alone b).refusal ≡ some q = ap (λ (y : Estimated). y.refusal) (sym e) ∙ f in
-      ap (λ (y : Estimated). served (ran y) m) e ∙ rw g
-
-  pub kept_left : (c : RunState) {m' : Memory} → x.refusal ≡ none → (course_of (problem b.input) b.rates).end ≡ ok c → m' ≡ saved j n c m → served (ran x) m' ≡ keep_in (some j) n b m
-  kept_left c f g h =
-      let k : (alone b).refusal ≡ none = ap (λ (y : Estimated). y.refusal) (sym e) ∙ f in
-      rw h (ap (λ (y : Estimated). served (ran y) (saved j n c m)) e ∙ rw (k, g))
+-- and told so, where the memory is m
+pub told_away : (number : ℕ) (b : Brought) (ε : LyapunovError) → refusal ε ≡ refuse number 0 → (m : Memory) → served (ran (observed (Err (unstarted ε)) b.rows b.exponents b.final_state)) m ≡ served (ran (turned_away number b)) m
+told_away number b ε e m = ap (λ (x : Estimated). served (ran x) m) (turned_away_is number b ε e)

@@ -12,16 +12,14 @@ ghost use Rattle.error.specs.Refusal.{reported};
 ghost use Rattle.benettin.specs.Estimate as Estimate;
 ghost use Rattle.benettin.specs.Outputs as Outputs;
 ghost use Rattle.store.specs.Slots as Slots;
-ghost use Rattle.store.specs.Promises as Contracts;
 ghost use Rattle.calls.specs.Calls as Calls;
 ghost use Rattle.calls.specs.Served as Served;
 
-use benettin::{BenettinConfig, SpectrumEstimate};
-use error::{LyapunovError, Outcome};
-use floats::Position;
+use benettin::{BenettinConfig, RefusedRun, SpectrumEstimate};
+use error::LyapunovError;
 use system::System;
 
-// ---- a store with nothing kept
+// ---- a store with nothing kept: a call of C, as a dispatcher's is to be
 
 pub fn empty(counts: &mut [u64; 152])
     ensures { counts.new ≡ replicate 152 0 }
@@ -33,8 +31,8 @@ pub fn empty(counts: &mut [u64; 152])
 
 // Runs, and lays the run down in a slot unless it is refused.
 fn keep_at(
-    floats: &mut [f64],
-    counts: &mut [u64],
+    floats: &mut [f64; 2568],
+    counts: &mut [u64; 152],
     slot: usize,
     number: u8,
     system: System,
@@ -45,8 +43,8 @@ fn keep_at(
     rows: &mut [f64],
     exponents: &mut [f64],
     final_state: &mut [f64],
-) -> SpectrumEstimate
-    requires { Contracts.Sized (Slots.memory floats.old counts.old) × (slot < 8) }
+) -> Result<SpectrumEstimate, RefusedRun>
+    requires { slot < 8 }
     ensures { Served.served (Calls.ran (Outputs.observed result rows.new exponents.new final_state.new)) (Slots.memory floats.new counts.new)
         ≡ Served.keep_in (some slot) number (Calls.brought (Estimate.input system matrix.now time state.now config) config.top_k
         rows.old exponents.old final_state.old) (Slots.memory floats.old counts.old) }
@@ -66,12 +64,7 @@ fn keep_at(
         rows,
         exponents,
         final_state,
-    );
-    let estimate = done.estimate;
-    let outcome = estimate.outcome;
-    let Outcome::Accepted = outcome else {
-        return estimate;
-    };
+    )?;
     let k = config.top_k;
     let d = state.len();
     let kd = k * d;
@@ -84,9 +77,9 @@ fn keep_at(
         &tangents[..kd],
         &norms,
         k,
-        done.progress,
+        &done.progress,
     );
-    estimate
+    Ok(done.estimate)
 }
 
 // A run as `estimate_spectrum_at` makes it, kept under a number unless it is refused.
@@ -102,33 +95,32 @@ pub fn keep(
     rows: &mut [f64],
     exponents: &mut [f64],
     final_state: &mut [f64],
-) -> SpectrumEstimate
+) -> Result<SpectrumEstimate, RefusedRun>
     ensures { Served.served (Calls.ran (Outputs.observed result rows.new exponents.new final_state.new)) (Slots.memory floats.new counts.new)
         ≡ Served.serve (Slots.memory floats.old counts.old) (Calls.keep number (Calls.brought (Estimate.input system matrix.now time state.now config) config.top_k
         rows.old exponents.old final_state.old)) }
 {
-    match store::slot_for(floats, counts, number) {
-        Position::At(j) => keep_at(
-            floats,
-            counts,
-            j,
-            number,
-            system,
-            matrix,
-            time,
-            state,
-            config,
-            rows,
-            exponents,
-            final_state,
-        ),
-        Position::Nowhere => totals::answer::refused(LyapunovError::StoreFull, 0, 0),
-    }
+    let slot = store::slot_for(floats, counts, number).ok_or(LyapunovError::StoreFull)?;
+    keep_at(
+        floats,
+        counts,
+        slot,
+        number,
+        system,
+        matrix,
+        time,
+        state,
+        config,
+        rows,
+        exponents,
+        final_state,
+    )
 }
 
 // ---- going on
 
-// Goes on from what is kept under a number, for the windows of the settings. The store stays as it is.
+// Goes on from what is kept under a number, for the windows of the settings. The store stays as it is. C lends this call what it
+// lends `keep`, so the two have one shape.
 pub fn go_on(
     floats: &[f64; 2568],
     counts: &[u64; 152],
@@ -141,40 +133,38 @@ pub fn go_on(
     rows: &mut [f64],
     exponents: &mut [f64],
     final_state: &mut [f64],
-) -> SpectrumEstimate
+) -> Result<SpectrumEstimate, RefusedRun>
     ensures { Served.served (Calls.ran (Outputs.observed result rows.new exponents.new final_state.new)) (Slots.memory floats.now counts.now)
         ≡ Served.serve (Slots.memory floats.now counts.now) (Calls.go_on number (Calls.brought (Estimate.input system matrix.now time state.now config) config.top_k
         rows.old exponents.old final_state.old)) }
 {
-    match store::slot_of(floats, counts, number) {
-        Position::At(j) => resume::go_on_from(
-            floats,
-            counts,
-            j,
-            system,
-            matrix,
-            time,
-            state,
-            config,
-            rows,
-            exponents,
-            final_state,
-        ),
-        Position::Nowhere => totals::answer::refused(LyapunovError::NoSuchNumber, 0, 0),
-    }
+    let slot = store::slot_of(floats, counts, number).ok_or(LyapunovError::NoSuchNumber)?;
+    resume::go_on_from(
+        floats,
+        counts,
+        slot,
+        system,
+        matrix,
+        time,
+        state,
+        config,
+        rows,
+        exponents,
+        final_state,
+    )
 }
 
 // ---- forgetting
 
 // Forgets what is kept under a number.
-pub fn forget(floats: &[f64; 2568], counts: &mut [u64; 152], number: u8) -> Outcome
+pub fn forget(
+    floats: &[f64; 2568],
+    counts: &mut [u64; 152],
+    number: u8,
+) -> Result<(), LyapunovError>
     ensures { Served.served (Calls.told (reported result)) (Slots.memory floats.now counts.new) ≡ Served.serve (Slots.memory floats.now counts.old) (Calls.forget number) }
 {
-    match store::slot_of(floats, counts, number) {
-        Position::At(j) => {
-            counts[19 * j] = 0;
-            Outcome::Accepted
-        }
-        Position::Nowhere => Outcome::Refused(LyapunovError::NoSuchNumber),
-    }
+    let forgotten = store::slot_of(floats, counts, number).ok_or(LyapunovError::NoSuchNumber)?;
+    counts[19 * forgotten] = 0;
+    Ok(())
 }

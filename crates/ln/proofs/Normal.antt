@@ -1,17 +1,17 @@
 -- A normal value's pattern, and the exponent k as a signed number.
-use mathlib.Core.Path.{◌≡◌, ap, ◌∙◌}
-use mathlib.Core.Bool.{Bool, true, false, cond}
-use Prim.Native.Nat.{ℕ, zero, suc, ◌-◌, ◌^◌, ◌<◌}
+use mathlib.Core.Path.{◌≡◌}
+use mathlib.Core.Bool.{true, false}
+use Prim.Native.Nat.{ℕ, zero, suc, ◌<◌}
 use native.Mathlib.Omega.{arith}
-use lib.IntN.{ℤ, pos, negsuc, ◌-ℤ◌}
-use lib.Signed.{mag}
-use lib.Dec.{T, ltb}
+use lib.IntN.{pos, ◌-ℤ◌}
+use Rattle.std.proofs.lemmas.Int.{ints}
+use lib.Dec.{T}
 use lib.Ieee.{Float, nan, inf, fin, le, lt}
 use lib.Ieee.Fits.{and_l, and_r}
 use lib.Ieee.Positive.{above, above_of_le}
 use mir.Syntax.{w32}
-use mir.Val.{SFits, to_z, of_z}
-use mir.ValLaws.{to_z_pos, to_z-of_z}
+use mir.Val.{to_z, of_z}
+use mir.ValLaws.{to_z-of_z}
 use Rattle.floats.proofs.Ordinary.{Ordinary, ordinary}
 use Rattle.floats.specs.Arithmetic.{least_normal}
 use Rattle.ln.specs.Logarithm.{normal}
@@ -29,15 +29,5 @@ pub normal_ordinary : (z : Float) → T (normal z) → Ordinary z
 normal_ordinary z h = under_inf z (above_of_le least_normal z tt (and_l (le least_normal z) (lt z (inf false)) h)) (and_r (le least_normal z) (lt z (inf false)) h)
 
 -- ---- n - 1023 for an n below 2048
-pub exponent_fits : (n : ℕ) → n < 2048 → SFits w32 (pos n -ℤ pos 1023)
-exponent_fits n h = record { sfits = go (ltb n 1023) }
-  where
-    go : (t : Bool) → mag (cond t (negsuc (1023 - suc n)) (pos (n - 1023))) < 2 ^ 31
-    go true = omega arith
-    go false = omega arith
-
-pub exponent_read : (n : ℕ) → n < 2048 → to_z w32 n ≡ pos n
-exponent_read n h = to_z_pos w32 n (omega arith)
-
 pub exponent_back : (n : ℕ) → n < 2048 → to_z w32 (of_z w32 (to_z w32 n -ℤ pos 1023)) ≡ pos n -ℤ pos 1023
-exponent_back n h = ap (λ (z : ℤ). to_z w32 (of_z w32 (z -ℤ pos 1023))) (exponent_read n h) ∙ to_z-of_z w32 (pos n -ℤ pos 1023) (exponent_fits n h)
+exponent_back n h = grind (arith, ints, to_z-of_z)

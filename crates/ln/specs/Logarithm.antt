@@ -3,10 +3,8 @@ use Rattle.std.specs.Prelude.{Bool, true, false, ◌&&◌, ◌≡◌, ℕ, ◌+�
 use Rattle.std.specs.Float.{inf, binary64}
 use Rattle.std.specs.Float.Ieee.{up, down, to_bits, of_int, le, lt}
 use Rattle.std.specs.Float.Ieee.Positive.{num, den}
-use Rattle.error.specs.Refusal.{Answer, value, refused, refusal, refuse}
+use Rattle.error.specs.Refusal.{Answer, value, refused, refuse}
 use Rattle.floats.specs.Arithmetic.{◌⊕◌, ◌⊖◌, ◌⊗◌, ◌⊘◌, bits, least_normal}
-use Rattle.ln.specs.declared.Logarithm.{Logarithm}
-use Rattle.ln.specs.declared.Logarithm.TheVariants.{Value, Refused}
 
 -- positive, normal and finite
 abbrev pub normal : Float → Bool
@@ -55,8 +53,3 @@ given false y = refused (refuse 24 0)
 
 abbrev pub logarithm : Float → Answer Float
 logarithm z = given (normal z) (log z)
-
--- what the code's answer stands for
-abbrev pub answer : Logarithm → Answer Float
-answer (Value y) = value y
-answer (Refused e) = refused (refusal e)

@@ -6,15 +6,10 @@
 #![tactic(auto)]
 
 ghost use Rattle.std.specs.Prelude.{◌≡◌, T};
+ghost use Rattle.error.specs.Refusal.{answer};
 ghost use Rattle.ln.specs.Logarithm as Spec;
 
 use error::LyapunovError;
-
-#[derive(Clone, Copy)]
-pub enum Logarithm {
-    Value(f64),
-    Refused(LyapunovError),
-}
 
 // The logarithm of m * 2^k, for m near 1.
 fn series(m: f64, k: f64) -> f64
@@ -50,13 +45,13 @@ fn normal_ln(z: f64) -> f64
     series(m, k as f64)
 }
 
-pub fn ln(z: f64) -> Logarithm
-    ensures { Spec.answer result ≡ Spec.logarithm z }
+pub fn ln(z: f64) -> Result<f64, LyapunovError>
+    ensures { answer result ≡ Spec.logarithm z }
 {
     if z >= f64::from_bits(floats::LEAST_NORMAL_BITS) {
         if z < f64::from_bits(floats::INFINITY_BITS) {
-            return Logarithm::Value(normal_ln(z));
+            return Ok(normal_ln(z));
         }
     }
-    Logarithm::Refused(LyapunovError::LogarithmDomain)
+    Err(LyapunovError::LogarithmDomain)
 }

@@ -4,7 +4,9 @@
 // Crate system has the ring as one of its systems, crate system_validation its tests; only crate system calls these two.
 //
 // A cell needs the one after it and the two before it. The loops carry them along and load each pair of cells once, so that
-// pairs stay whole between memory and registers: a pair that is loaded from two stores has to wait for both.
+// pairs stay whole between memory and registers: a pair that is loaded from two stores has to wait for both. The tangent map's
+// loop carries two stencils where the field's carries one, so they stay two. `Cells` is asked of the parts, since both functions
+// look at the count once, before their loop. The cell after a stencil comes from the next pair, so it is passed beside it.
 #![tactic(auto)]
 
 ghost use Rattle.std.specs.Prelude.{◌≡◌, ℕ, ◌+◌, ◌%◌, ◌≤◌, ◌<◌, List, length, take, Float};
@@ -89,7 +91,6 @@ fn cell_tangent(s: Stencil, s_after: f64, u: Stencil, u_after: f64) -> f64
 
 // The vector field at x, at the front of `out`, which stays as it is where there are not 4 to 16 cells.
 pub fn vector_field(cells: usize, forcing: f64, x: &[f64; 16], out: &mut [f64; 16])
-    requires { length out.old ≡ 16 }
     ensures { (length out.new ≡ 16)
         × (Cells cells → take cells out.new ≡ ring_field cells forcing (take cells x.now)) }
 {
@@ -117,7 +118,6 @@ pub fn vector_field(cells: usize, forcing: f64, x: &[f64; 16], out: &mut [f64; 1
 
 // Its tangent map, of the direction t at the state x.
 pub fn jacobian_vector_product(cells: usize, x: &[f64; 16], t: &[f64; 16], out: &mut [f64; 16])
-    requires { length out.old ≡ 16 }
     ensures { (length out.new ≡ 16)
         × (Cells cells → take cells out.new ≡ ring_tangent cells (take cells x.now) (take cells t.now)) }
 {

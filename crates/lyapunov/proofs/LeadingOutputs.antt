@@ -11,7 +11,7 @@ use Rattle.error.specs.declared.Refusal.{Refusal}
 use Rattle.benettin.specs.Outputs.{Estimated, estimated}
 use Rattle.benettin.proofs.LeadingOutputs as Library
 use Rattle.benettin.proofs.Reading.{NotZero, estimated_number}
-use Rattle.interface.specs.Interface.{Call, Returns, counts, times}
+use Rattle.interface.specs.Interface.{Call, Returns}
 use Rattle.lyapunov.specs.LeadingOutputs.{refusal_of, received, as_call, Faithful, LeadingOutputs}
 
 refusal_back : (o : Option Refusal) → NotZero o → refusal_of (number_of o) (place_of o) ≡ o

@@ -1,3 +1,2 @@
--- Laws that the proofs of the functions cite.
-pub mod Runs
+-- Laws of the definitions of specs/.
 pub mod LeadingOutputs

@@ -1,9 +1,13 @@
 // The C interface: flat numbers and slices, exported by `rt staticlib lyapunov`. include/lyapunov.h declares it.
 //
 // Every function is total and hands the promise of the library's own function on. A refusal's number is the result, 0 for
-// none, as specs/Refusal.antt of crate error has it. specs/Interface.antt of crate interface says what a system's number means,
-// and what is written through a pointer. specs/LeadingOutputs.antt states that a call from C is a call of the library's own
-// function, and that its first rates hold still. specs/Marked.antt is document 01's table of marked examples.
+// none, as specs/Refusal.antt of crate error has it. specs/Numbers.antt of crate system_numbers says what a system's number
+// means, and specs/Interface.antt of crate interface what is written through a pointer. specs/LeadingOutputs.antt states that a
+// call from C is a call of the library's own function, and that its first rates hold still. specs/Marked.antt is document 01's
+// table of marked examples.
+//
+// C hands over a system by its kind, a refusal by its number and its place, and lends each slice by itself. So parameters stand
+// side by side here, and functions of one shape stay apart: each is an exported name.
 #![tactic(auto)]
 
 ghost use Rattle.std.specs.Prelude.{◌≡◌, replicate};
@@ -20,9 +24,12 @@ ghost use Rattle.store.specs.Slots.{memory};
 ghost use Rattle.calls.specs.Calls as Calls;
 ghost use Rattle.calls.specs.Served.{serve};
 ghost use Rattle.interface.specs.Interface as Interface;
+ghost use Rattle.system_numbers.specs.Numbers as Numbers;
 
-use benettin::{BenettinConfig, Configured, validation};
-use error::Outcome;
+use benettin::{BenettinConfig, validation};
+use error::Refusal;
+use system::System;
+use system_numbers::Numbered;
 
 // The square root.
 #[unsafe(no_mangle)]
@@ -38,11 +45,11 @@ pub extern "C" fn lyapunov_ln(x: f64, out: &mut f64) -> u64
     ensures { (result ≡ number_of (refusal_in (logarithm x))) × (out.new ≡ Interface.value_or out.old (logarithm x)) }
 {
     match ln::ln(x) {
-        ln::Logarithm::Value(y) => {
+        Ok(y) => {
             *out = y;
             0
         }
-        ln::Logarithm::Refused(e) => error::number(e),
+        Err(e) => Refusal::from(e).number,
     }
 }
 
@@ -101,9 +108,15 @@ pub extern "C" fn lyapunov_step(
     place: &mut u64,
 ) -> u64
     ensures { Interface.StepReturns result place.new state.new tangents.new
-        (stepped (Interface.system kind p0 p1 p2 dimension) matrix.now time state.old tangents.old count step_size) }
+        (stepped (Numbers.system kind p0 p1 p2 dimension) matrix.now time state.old tangents.old count step_size) }
 {
-    let system = interface::system_of(kind, p0, p1, p2, dimension);
+    let system = System::from(Numbered {
+        kind,
+        p0,
+        p1,
+        p2,
+        dimension,
+    });
     let outcome = rk4::step(system, matrix, time, state, tangents, count, step_size);
     interface::report(outcome, place)
 }
@@ -119,10 +132,8 @@ pub extern "C" fn lyapunov_build_config(
 ) -> u64
     ensures { Interface.Refuses result place.new (refusal_in (configured top_k step_size steps_per_window windows)) }
 {
-    match BenettinConfig::new(top_k, step_size, steps_per_window, windows) {
-        Configured::Config(_) => interface::report(Outcome::Accepted, place),
-        Configured::Refused(e) => interface::report(Outcome::Refused(e), place),
-    }
+    let config = BenettinConfig::new(top_k, step_size, steps_per_window, windows);
+    interface::report(config, place)
 }
 
 // The number and the place of the first of the tests 1 to 12 and 25 that a run with this input fails. Nothing is run.
@@ -144,10 +155,16 @@ pub extern "C" fn lyapunov_validate(
     place: &mut u64,
 ) -> u64
     ensures { Interface.Refuses result place.new (Interface.input_refusal
-        (input (Interface.system kind p0 p1 p2 dimension) matrix.now time state.now (settings top_k step_size steps_per_window windows transient_windows default_seed))
+        (input (Numbers.system kind p0 p1 p2 dimension) matrix.now time state.now (settings top_k step_size steps_per_window windows transient_windows default_seed))
         top_k) }
 {
-    let system = interface::system_of(kind, p0, p1, p2, dimension);
+    let system = System::from(Numbered {
+        kind,
+        p0,
+        p1,
+        p2,
+        dimension,
+    });
     let config = BenettinConfig {
         top_k,
         step_size,
@@ -184,11 +201,17 @@ pub extern "C" fn lyapunov_estimate_spectrum_at(
     counts: &mut [u64; 19],
     times: &mut [f64; 2],
 ) -> u64
-    ensures { Interface.Meets (input (Interface.system kind p0 p1 p2 dimension) matrix.now time state.now (settings top_k step_size steps_per_window windows transient_windows seed))
+    ensures { Interface.Meets (input (Numbers.system kind p0 p1 p2 dimension) matrix.now time state.now (settings top_k step_size steps_per_window windows transient_windows seed))
         top_k
         (Interface.call rows.old exponents.old final_state.old result counts.new times.new rows.new exponents.new final_state.new) }
 {
-    let system = interface::system_of(kind, p0, p1, p2, dimension);
+    let system = System::from(Numbered {
+        kind,
+        p0,
+        p1,
+        p2,
+        dimension,
+    });
     let config = BenettinConfig {
         top_k,
         step_size,
@@ -232,11 +255,17 @@ pub extern "C" fn lyapunov_estimate_spectrum(
     counts: &mut [u64; 19],
     times: &mut [f64; 2],
 ) -> u64
-    ensures { Interface.Meets (input (Interface.system kind p0 p1 p2 dimension) matrix.now zero⁺ state.now (settings top_k step_size steps_per_window windows transient_windows seed))
+    ensures { Interface.Meets (input (Numbers.system kind p0 p1 p2 dimension) matrix.now zero⁺ state.now (settings top_k step_size steps_per_window windows transient_windows seed))
         top_k
         (Interface.call rows.old exponents.old final_state.old result counts.new times.new rows.new exponents.new final_state.new) }
 {
-    let system = interface::system_of(kind, p0, p1, p2, dimension);
+    let system = System::from(Numbered {
+        kind,
+        p0,
+        p1,
+        p2,
+        dimension,
+    });
     let config = BenettinConfig {
         top_k,
         step_size,
@@ -276,11 +305,17 @@ pub extern "C" fn lyapunov_estimate_largest(
     counts: &mut [u64; 19],
     times: &mut [f64; 2],
 ) -> u64
-    ensures { Interface.Meets (input (Interface.system kind p0 p1 p2 dimension) matrix.now zero⁺ state.now (settings 1 step_size steps_per_window windows 0 default_seed))
+    ensures { Interface.Meets (input (Numbers.system kind p0 p1 p2 dimension) matrix.now zero⁺ state.now (settings 1 step_size steps_per_window windows 0 default_seed))
         1
         (Interface.call rows.old exponents.old final_state.old result counts.new times.new rows.new exponents.new final_state.new) }
 {
-    let system = interface::system_of(kind, p0, p1, p2, dimension);
+    let system = System::from(Numbered {
+        kind,
+        p0,
+        p1,
+        p2,
+        dimension,
+    });
     let answer = estimator::estimate::estimate_largest(
         system,
         matrix,
@@ -332,10 +367,16 @@ pub extern "C" fn lyapunov_keep(
     ensures { Interface.KeeperReturns result counts.new times.new
         rows.new exponents.new final_state.new (memory store_floats.new store_counts.new)
         (serve (memory store_floats.old store_counts.old) (Calls.keep number
-        (Calls.brought (input (Interface.system kind p0 p1 p2 dimension) matrix.now time state.now (settings top_k step_size steps_per_window windows transient_windows seed))
+        (Calls.brought (input (Numbers.system kind p0 p1 p2 dimension) matrix.now time state.now (settings top_k step_size steps_per_window windows transient_windows seed))
         top_k rows.old exponents.old final_state.old))) }
 {
-    let system = interface::system_of(kind, p0, p1, p2, dimension);
+    let system = System::from(Numbered {
+        kind,
+        p0,
+        p1,
+        p2,
+        dimension,
+    });
     let config = BenettinConfig {
         top_k,
         step_size,
@@ -389,10 +430,16 @@ pub extern "C" fn lyapunov_go_on(
     ensures { Interface.KeeperReturns result counts.new times.new
         rows.new exponents.new final_state.new (memory store_floats.now store_counts.now)
         (serve (memory store_floats.now store_counts.now) (Calls.go_on number
-        (Calls.brought (input (Interface.system kind p0 p1 p2 dimension) matrix.now time state.now (settings top_k step_size steps_per_window windows transient_windows seed))
+        (Calls.brought (input (Numbers.system kind p0 p1 p2 dimension) matrix.now time state.now (settings top_k step_size steps_per_window windows transient_windows seed))
         top_k rows.old exponents.old final_state.old))) }
 {
-    let system = interface::system_of(kind, p0, p1, p2, dimension);
+    let system = System::from(Numbered {
+        kind,
+        p0,
+        p1,
+        p2,
+        dimension,
+    });
     let config = BenettinConfig {
         top_k,
         step_size,
@@ -427,8 +474,8 @@ pub extern "C" fn lyapunov_forget(
     ensures { Interface.ForgetReturns result (memory store_floats.now store_counts.new) (serve (memory store_floats.now store_counts.old) (Calls.forget number)) }
 {
     match keep::forget(store_floats, store_counts, number) {
-        Outcome::Accepted => 0,
-        Outcome::Refused(e) => error::number(e),
+        Ok(()) => 0,
+        Err(e) => Refusal::from(e).number,
     }
 }
 

@@ -4,8 +4,10 @@
 // read. Crate system has linear systems, crate system_validation the test of their matrix; only crates system and rk4 call
 // these three.
 //
-// A product sums all rows at once, a column at a time, at a width that is known where it is compiled: the sums run side by side, and each still adds in
-// index order. So the matrix is transposed once a step, into columns of 8 or 16 entries.
+// A product sums all rows at once, a column at a time, at a width that is known where it is compiled: the sums run side by
+// side, and each still adds in index order. So the matrix is transposed once a step, into columns of 8 or 16 entries. A width is
+// at most 16, as vectors are arrays of 16, and the columns have room for it: the type of a slice can't say what it has to do
+// with a width.
 #![tactic(auto)]
 
 ghost use Rattle.std.specs.Prelude.{◌≡◌, ℕ, ◌+◌, ◌*◌, ◌≤◌, ◌<◌, List, length, take, get_or, Float};
@@ -54,7 +56,7 @@ fn add_column<const WIDTH: usize>(sums: [f64; 16], columns: &[f64], a: usize, x:
 // for themselves and not for each other, and columns are read as they lie. `min` changes nothing: it shows LLVM that there are at
 // most 8 rounds at width 8, which it then unrolls.
 pub fn product<const WIDTH: usize>(columns: &[f64], d: usize, x: &[f64; 16]) -> [f64; 16]
-    requires { (d ≤ WIDTH) × (WIDTH ≤ 16) × (WIDTH * d ≤ length columns.now) × (length x.now ≡ 16) }
+    requires { (d ≤ WIDTH) × (WIDTH ≤ 16) × (WIDTH * d ≤ length columns.now) }
     ensures { (m : List Float) → length m ≡ d * d → Transposed WIDTH d m columns.now → take d result ≡ times (chunks d d m) (take d x.now) }
 {
     let mut sums = [0.0; 16];
@@ -68,7 +70,6 @@ pub fn product<const WIDTH: usize>(columns: &[f64], d: usize, x: &[f64; 16]) -> 
 // The same by columns of 16 entries, into `out`, which stays as it is where they are not there: a system that is evaluated
 // may have any dimension.
 pub fn wide_product(columns: &[f64], d: usize, x: &[f64; 16], out: &mut [f64; 16])
-    requires { (length x.now ≡ 16) × (length out.old ≡ 16) }
     ensures { (length out.new ≡ 16)
         × ((m : List Float) → Held d m columns.now → take d out.new ≡ times (chunks d d m) (take d x.now)) }
 {

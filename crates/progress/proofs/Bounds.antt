@@ -7,12 +7,12 @@ use mathlib.Core.List.{List}
 use lib.ListN.{length, get_or, replicate}
 use lib.Ieee.{Float}
 use lib.Ieee.Scale.{finite}
-use Rattle.error.specs.declared.Outcome.{Outcome}
 use Rattle.floats.specs.Vector.{updated}
 use Rattle.floats.proofs.Updated.{updated_drop, updated_length}
 use Rattle.system.specs.declared.System.{System}
 use Rattle.rk4.proofs.Tests.{passed_kept}
 use Rattle.benettin.specs.Estimate.{limit}
+use Rattle.benettin.specs.declared.BenettinConfig.{BenettinConfig}
 use Rattle.totals.specs.Progress.{Held, fresh, after_steps, with_faint, with_sums, counted}
 use Rattle.totals.specs.Ending.{Bounded}
 use Rattle.totals.specs.declared.Progress.{Progress}
@@ -28,17 +28,14 @@ zeros zero i = refl
 zeros (suc n) zero = refl
 zeros (suc n) (suc i) = zeros n i
 
-pub bounded_fresh : {k : ℕ} (v : Outcome) {time : Float} → finite time ≡ true → Bounded k 0 0 (fresh v time)
-bounded_fresh v h = record { counts = refl; behind = refl; sums = refl; clock = h; steps = omega arith; windows = omega arith; faint = λ i. omega (arith, zeros 16 i) }
+pub bounded_fresh : {k : ℕ} {time : Float} → finite time ≡ true → Bounded k 0 0 (fresh time)
+bounded_fresh h = record { counts = refl; behind = refl; sums = refl; clock = h; steps = omega arith; windows = omega arith; faint = λ i. omega (arith, zeros 16 i) }
 
 module _ {k a c : ℕ} {p : Progress} (x : Bounded k a c p) where
-  pub bounded_steps : (v : Outcome) {time : Float} {made : ℕ} → finite time ≡ true → made ≤ limit → Bounded k (a + 1) c (after_steps p v time made)
-  bounded_steps v f h =
-      record { counts = x.counts; behind = x.behind; sums = x.sums; clock = f; steps = omega (arith, x.steps); windows = x.windows; faint = λ i. omega (arith, x.faint i) }
-
-  pub bounded_counted : (v : Outcome) {time : Float} {made : ℕ} (squares : List Float) → finite time ≡ true → made ≤ limit → length squares ≤ k
-      → Bounded k (a + 1) c (with_faint (after_steps p v time made) (updated counted p.faint squares))
-  bounded_counted v squares f h l =
+  -- one window more
+  pub bounded_counted : {time : Float} {made : ℕ} (squares : List Float) → finite time ≡ true → made ≤ limit → length squares ≤ k
+      → Bounded k (a + 1) c (with_faint (after_steps p time made) (updated counted p.faint squares))
+  bounded_counted squares f h l =
       record {
         counts = updated_length counted p.faint squares ∙ x.counts;
         behind = updated_drop counted p.faint squares k l ∙ x.behind;
@@ -57,20 +54,15 @@ module _ {k a c : ℕ} {p : Progress} (x : Bounded k a c p) where
 pub record SameLengths (H H' : Held) : Type 0 where
   pub state : length H'.state ≡ length H.state
   pub tangents : length H'.tangents ≡ length H.tangents
-  pub norms : length H'.norms ≡ length H.norms
 
-pub same_trans : {H H' H'' : Held} → SameLengths H H' → SameLengths H' H'' → SameLengths H H''
-same_trans a b = record { state = b.state ∙ a.state; tangents = b.tangents ∙ a.tangents; norms = b.norms ∙ a.norms }
-
-pub fits_kept : {S : System} {m : List Float} {k n a c a' c' : ℕ} {h : Float} {H H' : Held} → Fits S m k h n a c H → SameLengths H H' → Bounded k a' c' H'.progress → Fits S m k h n a' c' H'
+pub fits_kept : {S : System} {m : List Float} {s : BenettinConfig} {a c a' c' : ℕ} {H H' : Held} → Fits S m s a c H → SameLengths H H' → Bounded s.top_k a' c' H'.progress → Fits S m s a' c' H'
 fits_kept F s b =
     record {
       passed = passed_kept s.state F.passed;
       steps = F.steps;
       tangents = s.tangents ∙ F.tangents;
-      norms = s.norms ∙ F.norms;
       bounded = b;
     }
 
-pub fits_up : {S : System} {m : List Float} {k n n' a b c e : ℕ} {h : Float} {H : Held} → n' ≤ limit → a ≤ b → c ≤ e → Fits S m k h n a c H → Fits S m k h n' b e H
-fits_up z x y F = record { passed = F.passed; steps = z; tangents = F.tangents; norms = F.norms; bounded = bounded_up x y F.bounded }
+pub fits_up : {S : System} {m : List Float} {s : BenettinConfig} {a b c e : ℕ} {H : Held} → a ≤ b → c ≤ e → Fits S m s a c H → Fits S m s b e H
+fits_up x y F = record { passed = F.passed; steps = F.steps; tangents = F.tangents; bounded = bounded_up x y F.bounded }

@@ -3,30 +3,31 @@ use Prim.Native.Nat.{ℕ, zero, suc, ◌+◌, ◌-◌, ◌*◌, ◌≤◌, ◌<�
 use native.Mathlib.Nat.{suc-mul, add_comm}
 use native.Mathlib.Numerals.{add-one}
 use native.Mathlib.Omega.{arith}
-use mathlib.Core.Path.{◌≡◌, refl, sym, ◌∙◌}
+use mathlib.Core.Path.{◌≡◌, refl, sym, ap, ◌∙◌}
 use mathlib.Core.List.{List, [], ◌++◌, append-nil}
 use lib.ListN.{length, take, set}
 use lib.Seq.{take_all, take_at, drop_at, take-suc-set, append_snoc}
 use lib.Ieee.{Float}
 use mathlib.Core.Bool.{true, false}
+use Rattle.std.specs.Prelude.{Ok, Err}
 use Rattle.error.specs.declared.LyapunovError.{LyapunovError}
 use Rattle.error.specs.declared.LyapunovError.TheVariants.{InvalidWindowDuration}
-use Rattle.error.specs.declared.Outcome.{Outcome}
-use Rattle.error.specs.declared.Outcome.TheVariants.{Accepted, Refused}
 use Rattle.floats.specs.Arithmetic.{◌⊗◌, zero⁺}
 use Rattle.system.specs.System.{dim}
 use Rattle.system.specs.declared.System.{System}
 use Rattle.gram_schmidt.specs.GramSchmidt.{euclidean, orthonormalised, observed}
 use lib.Ieee.Scale.{finite}
 use Rattle.floats.specs.Vector.{chunks}
-use Rattle.splitmix64.specs.Mix.{next_state, mix, unit}
-use Rattle.benettin.specs.Run.{Generator, draws, generator_after, drawn_directions, initial, reorthonormalise, check_duration, begin, as_float, ◌then◌}
+use Rattle.splitmix64.specs.Mix.{symmetric_unit}
+use Rattle.splitmix64.specs.declared.SplitMix64.{SplitMix64}
+use Rattle.benettin.specs.Run.{Generator, RunState, draws, generator_after, drawn_directions, initial, check_duration, begin, as_float, ◌then◌}
 use Rattle.benettin.specs.Estimate.{dynamics, splitmix64}
 use Rattle.benettin.proofs.Prefix.{draws_length, take_replicate}
-use Rattle.totals.specs.Progress.{held, run_state, totals, status, fresh}
-use Rattle.totals.specs.declared.Progress.{Progress}
+use Rattle.benettin.specs.Outputs.{unstarted}
+use Rattle.benettin.specs.declared.BenettinConfig.{BenettinConfig}
+use Rattle.totals.specs.Progress.{held, motion, joined, run_state, totals, fresh}
 use Rattle.progress.specs.UnderWay.{Begins, Begun}
-use Rattle.progress.proofs.Basis.{reorthonormalised}
+use Rattle.progress.proofs.Basis.{basis_collapsed, basis_made}
 use Rattle.progress.proofs.Bounds.{bounded_fresh}
 
 module _ (G : Generator) where
@@ -62,48 +63,60 @@ module _ (G : Generator) where
         drawn_are d k (generator_after G.next d s),
       )
 
-pub draws_iteration : (xs : List Float) (n i s s' : ℕ) (x : Float) → i < n → length xs ≡ n → s' ≡ next_state s → x ≡ unit (mix s')
-    → take i xs ++ draws splitmix64 (n - i) s ≡ take (i + 1) (set xs i x) ++ draws splitmix64 (n - (i + 1)) s'
+pub draws_iteration : (xs : List Float) (n i : ℕ) (g g' : SplitMix64) (x : Float) → i < n → length xs ≡ n → (g', x) ≡ symmetric_unit g
+    → take i xs ++ draws splitmix64 (n - i) g.state ≡ take (i + 1) (set xs i x) ++ draws splitmix64 (n - (i + 1)) g'.state
 unfolding splitmix64
-draws_iteration xs n i s s' x h e a b = draws_next splitmix64 xs n i s h e ∙ rw (b, a)
+draws_iteration xs n i g g' x h e d =
+    draws_next splitmix64 xs n i g.state h e ∙ rw (ap (λ (r : SplitMix64 × Float). r.0.state) d, ap (λ (r : SplitMix64 × Float). r.1) d)
 
 -- ---- the begin
 
--- what the orthonormalisation of the drawn directions told
-pub record Drawn (k n : ℕ) (time : Float) (seed : ℕ) (x t norms : List Float) (r : Outcome) (t' norms' : List Float) : Type 0 where
-  pub begins : Begins k n time x t norms
-  pub told : observed r t' norms' ≡ orthonormalised euclidean (draws splitmix64 (length t) seed) (length x) norms
+-- the drawn directions are orthonormalised
+module _ {c : BenettinConfig} {time : Float} {x t : List Float} (G : Begins c time x t) where
+  abbrev drawn : List Float
+  drawn = draws splitmix64 (length t) c.seed
 
-module _ {k n : ℕ} {time : Float} {seed : ℕ} {x t norms : List Float} {r : Outcome} {t' norms' : List Float} (I : Drawn k n time seed x t norms r t' norms') (h : Float) where
-  -- by how the orthonormalisation ended
-  basis_is : (S : System) (m : List Float) → length x ≡ dim S
-      → status (dim S) k (held x t' norms' (fresh r time)) ≡ reorthonormalise (dynamics S m h n) (initial splitmix64 (dim S) x time seed k)
-  unfolding initial dynamics
-  basis_is S m d =
-      let T = draws splitmix64 (k * dim S) seed in
-      let e : observed r t' norms' ≡ orthonormalised euclidean T (dim S) norms = I.told ∙ rw (I.begins.tangents, d) in
-      reorthonormalised (dim S) k T norms (omega (arith, I.begins.above)) I.begins.few (draws_length splitmix64 (k * dim S) seed) I.begins.norms r t' norms' e (dynamics S m h n) refl x time 0
-      (record { logs = []; reports = [] }) (totals k (fresh r time))
-      ∙ rw (drawn_are splitmix64 (dim S) k seed, take_replicate zero⁺ k 16 I.begins.few, take_replicate {A = ℕ} 0 k 16 I.begins.few)
+  abbrev start : System → RunState
+  start S = initial splitmix64 (dim S) x time c.seed c.top_k
 
-  pub begun_14 : {ε : LyapunovError} {p : Progress} → p ≡ fresh (Refused ε) time → r ≡ Refused ε → Begun k h n time seed (held x t' norms' p)
-  unfolding begin ◌then◌
-  begun_14 {ε} g f = record { status = λ S m d. rw (g, ← basis_is S m d, f); bounded = rw g (bounded_fresh (Refused ε) I.begins.clock) }
+  -- as the slices hold it
+  start_is : (S : System) → length x ≡ dim S → start S ≡ joined (motion (dim S) c.top_k x drawn time 0) (record { logs = []; reports = [] }) (totals c.top_k (fresh time))
+  unfolding initial
+  start_is S d = rw (G.tangents, d, drawn_are splitmix64 (dim S) c.top_k c.seed, take_replicate zero⁺ c.top_k 16 G.few, take_replicate {A = ℕ} 0 c.top_k 16 G.few)
 
-  module _ (f : r ≡ Accepted) (u : Float) (ν : u ≡ h ⊗ as_float n) where
-    begun_by : (S : System) (m : List Float) → length x ≡ dim S
-        → begin (dynamics S m h n) (initial splitmix64 (dim S) x time seed k) ≡ check_duration (dynamics S m h n) (run_state (dim S) k (held x t' norms' (fresh Accepted time)))
-    unfolding begin ◌then◌
-    begun_by S m d = rw (← basis_is S m d, f)
+  drawn_length : (S : System) → length x ≡ dim S → length drawn ≡ c.top_k * dim S
+  drawn_length S d = draws_length splitmix64 (length t) c.seed ∙ G.tangents ∙ rw d
 
-    pub begun_15 : {p : Progress} → p ≡ fresh (Refused InvalidWindowDuration) time → finite u ≡ false → Begun k h n time seed (held x t' norms' p)
-    unfolding check_duration dynamics
-    begun_15 g b =
-        let b' : finite (h ⊗ as_float n) ≡ false = rw ν at b in
-        record { status = λ S m d. rw (g, begun_by S m d, b'); bounded = rw g (bounded_fresh (Refused InvalidWindowDuration) I.begins.clock) }
+  above : (S : System) → length x ≡ dim S → 0 < dim S
+  above S d = omega (arith, G.above)
 
-    pub begun : {p : Progress} → p ≡ fresh Accepted time → finite u ≡ true → Begun k h n time seed (held x t' norms' p)
-    unfolding check_duration dynamics
-    begun g b =
-        let b' : finite (h ⊗ as_float n) ≡ true = rw ν at b in
-        record { status = λ S m d. rw (g, begun_by S m d, b'); bounded = rw g (bounded_fresh Accepted I.begins.clock) }
+  module _ (norms : List Float) (z : length norms ≡ 32) where
+    pub begun_14 : {ε : LyapunovError} {t' norms' : List Float} → observed (Err ε) t' norms' ≡ orthonormalised euclidean drawn (length x) norms → Begun c time x t' norms' (Err (unstarted ε))
+    unfolding begin ◌then◌ dynamics
+    begun_14 {ε} {t'} {norms'} E =
+        record {
+          status = λ S m d.
+              rw (
+                start_is S d,
+                basis_collapsed (dim S) c.top_k drawn norms (above S d) G.few (drawn_length S d) z (dynamics S m c.step_size c.steps_per_window) refl x time 0 (record { logs = []; reports = [] }) (totals c.top_k (fresh time)) ε t' norms' (rw d at E),
+              );
+          bounded = tt;
+        }
+
+    module _ {t' norms' : List Float} (E : observed (Ok tt) t' norms' ≡ orthonormalised euclidean drawn (length x) norms) where
+      begun_by : (S : System) (m : List Float) → length x ≡ dim S
+          → (let M = dynamics S m c.step_size c.steps_per_window in begin M (start S) ≡ check_duration M (run_state (dim S) c.top_k (held x t' norms' (fresh time))))
+      unfolding begin ◌then◌ dynamics
+      begun_by S m d =
+          rw (
+            start_is S d,
+            basis_made (dim S) c.top_k drawn norms (above S d) G.few (drawn_length S d) z t' norms' (rw d at E) (dynamics S m c.step_size c.steps_per_window) refl x time 0 (record { logs = []; reports = [] }) (totals c.top_k (fresh time)),
+          )
+
+      pub begun_15 : finite (c.step_size ⊗ as_float c.steps_per_window) ≡ false → Begun c time x t' norms' (Err (unstarted InvalidWindowDuration))
+      unfolding check_duration dynamics
+      begun_15 b = record { status = λ S m d. rw (begun_by S m d, b); bounded = tt }
+
+      pub begun : finite (c.step_size ⊗ as_float c.steps_per_window) ≡ true → Begun c time x t' norms' (Ok (fresh time))
+      unfolding check_duration dynamics
+      begun b = record { status = λ S m d. rw (begun_by S m d, b); bounded = bounded_fresh G.clock }

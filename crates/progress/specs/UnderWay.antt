@@ -1,8 +1,7 @@
 -- What the contracts of a run under way say, by name. A reader may skip it. Definitions only.
-use Rattle.std.specs.Prelude.{ℕ, ◌+◌, ◌*◌, ◌≤◌, ◌<◌, ◌≡◌, true, List, length, Float}
+use Rattle.std.specs.Prelude.{ℕ, ◌+◌, ◌*◌, ◌≤◌, ◌<◌, ◌≡◌, true, List, length, Float, Result, Ok, Err, IfOk, IfErr}
 use Rattle.std.specs.Float.Ieee.Scale.{finite}
-use Rattle.error.specs.Refusal.{reported}
-use Rattle.error.specs.declared.Outcome.TheVariants.{Accepted}
+use Rattle.error.specs.Refusal.{refusal}
 use Rattle.floats.specs.Arithmetic.{◌⊗◌}
 use Rattle.system.specs.System.{dim}
 use Rattle.system.specs.declared.System.{System}
@@ -10,66 +9,70 @@ use Rattle.rk4.specs.Tests.{Passed}
 use Rattle.benettin.specs.Run.{Dynamics, Norms, Totals, Status, ok, refused, row, accumulate, as_float, steps, window, begin, initial}
 use Rattle.benettin.specs.Estimate.{dynamics, splitmix64, limit}
 use Rattle.benettin.specs.Outputs.{flat_row}
-use Rattle.totals.specs.Progress.{Held, held, motion, joined, run_state, status_of, status}
+use Rattle.benettin.specs.declared.BenettinConfig.{BenettinConfig}
+use Rattle.benettin.specs.declared.RefusedRun.{RefusedRun}
+use Rattle.totals.specs.Progress.{Held, held, motion, joined, run_state, status}
 use Rattle.totals.specs.Ending.{Bounded, most}
 use Rattle.totals.specs.declared.Progress.{Progress}
-use Rattle.progress.specs.declared.advance.Advance.{Advance}
+use Rattle.progress.specs.declared.advance.RefusedStep.{RefusedStep}
 
 -- ---- what is asked
 
--- what fits together, for windows of n steps: what passed the tests, the slices' lengths, and what bounds the progress
-pub record Fits (S : System) (m : List Float) (k : ℕ) (h : Float) (n made measured : ℕ) (H : Held) : Type 0 where
-  pub passed : Passed S m H.state k h
-  pub steps : n ≤ limit
-  pub tangents : length H.tangents ≡ k * dim S
-  pub norms : length H.norms ≡ 32
-  pub bounded : Bounded k made measured H.progress
+-- what fits together: what passed the tests, the slices' lengths, and what bounds the progress
+pub record Fits (S : System) (m : List Float) (c : BenettinConfig) (made measured : ℕ) (H : Held) : Type 0 where
+  pub passed : Passed S m H.state c.top_k c.step_size
+  pub steps : c.steps_per_window ≤ limit
+  pub tangents : length H.tangents ≡ c.top_k * dim S
+  pub bounded : Bounded c.top_k made measured H.progress
 
--- what a run begins with: a state, room for k directions of as many entries, and for their numbers
-pub record Begins (k n : ℕ) (time : Float) (x t ns : List Float) : Type 0 where
+-- what a run begins with: a state, room for directions of as many entries, and for their numbers
+pub record Begins (c : BenettinConfig) (time : Float) (x t : List Float) : Type 0 where
   pub above : 0 < length x
-  pub few : k ≤ 16
-  pub steps : n ≤ limit
-  pub tangents : length t ≡ k * length x
-  pub norms : length ns ≡ 32
+  pub few : c.top_k ≤ 16
+  pub steps : c.steps_per_window ≤ limit
+  pub tangents : length t ≡ c.top_k * length x
   pub clock : finite time ≡ true
 
 -- ---- what is told
 
--- n steps from the state x, the directions t and the time: whatever a run holds beside them, however many steps it has made, and whatever the steps D of a measured window are
-pub record Advanced (S : System) (m : List Float) (k : ℕ) (h : Float) (n : ℕ) (time : Float) (x t : List Float) (r : Advance) (x' t' : List Float) : Type 0 where
+-- how a run goes on after steps: the state x and the directions t of the system S, whatever a run holds beside them, and however many steps s it has made before
+abbrev pub status_after : System → BenettinConfig → List Float → List Float → ℕ → Norms → Totals → Result Float RefusedStep → Status
+status_after S c x t s N T (Ok time) = ok (joined (motion (dim S) c.top_k x t time (s + c.steps_per_window)) N T)
+status_after S c x t s N T (Err r) = let e = refusal r.error in refused (record { number = e.number; place = e.place; finished = T.finished; steps = s + r.made })
+
+-- the steps of a window from the state x, the directions t and the time: whatever a run holds beside them, and whatever the steps D of a measured window are
+pub record Advanced (S : System) (m : List Float) (c : BenettinConfig) (time : Float) (x t x' t' : List Float) (r : Result Float RefusedStep) : Type 0 where
   pub status : (D s : ℕ) (N : Norms) (T : Totals)
-      → status_of (reported r.outcome) (joined (motion (dim S) k x' t' r.time (s + r.steps)) N T) ≡ steps (dynamics S m h D) n (joined (motion (dim S) k x t time s) N T)
-  pub few : r.steps ≤ n
-  pub clock : finite r.time ≡ true
+      → status_after S c x' t' s N T r ≡ steps (dynamics S m c.step_size D) c.steps_per_window (joined (motion (dim S) c.top_k x t time s) N T)
+  pub clock : IfOk r (λ time'. finite time' ≡ true)
+  pub few : IfErr r (λ e. e.made ≤ c.steps_per_window)
 
 -- so many windows more at most, and so many measured ones of them
-abbrev pub Unmeasured : ℕ → ℕ → Held → Held → Type 0
-Unmeasured k w H H' = (made measured : ℕ) → Bounded k made measured H.progress → Bounded k (made + w) measured H'.progress
+abbrev pub Unmeasured : ℕ → ℕ → Progress → Result Progress RefusedRun → Type 0
+Unmeasured k w p r = (made measured : ℕ) → Bounded k made measured p → IfOk r (λ p'. Bounded k (made + w) measured p')
 
-abbrev pub AllMeasured : ℕ → ℕ → Held → Held → Type 0
-AllMeasured k w H H' = (made measured : ℕ) → Bounded k made measured H.progress → Bounded k (made + w) (measured + w) H'.progress
+abbrev pub AllMeasured : ℕ → ℕ → Progress → Result Progress RefusedRun → Type 0
+AllMeasured k w p r = (made measured : ℕ) → Bounded k made measured p → IfOk r (λ p'. Bounded k (made + w) (measured + w) p')
 
--- one window of n steps, whatever the steps D of a measured one are
-pub record Windowed (S : System) (m : List Float) (k : ℕ) (h : Float) (n : ℕ) (H H' : Held) : Type 0 where
-  pub status : (D : ℕ) → status (dim S) k H' ≡ window (dynamics S m h D) n (run_state (dim S) k H)
-  pub bounded : Unmeasured k 1 H H'
+-- one window, whatever the steps D of a measured one are
+pub record Windowed (S : System) (m : List Float) (c : BenettinConfig) (H : Held) (x t ns : List Float) (r : Result Progress RefusedRun) : Type 0 where
+  pub status : (D : ℕ) → status (dim S) c.top_k x t ns r ≡ window (dynamics S m c.step_size D) c.steps_per_window (run_state (dim S) c.top_k H)
+  pub bounded : Unmeasured c.top_k 1 H.progress r
 
 -- the drawn basis orthonormalised and the duration tested, for every system of as many entries
-pub record Begun (k : ℕ) (h : Float) (n : ℕ) (time : Float) (seed : ℕ) (H : Held) : Type 0 where
-  pub status : (S : System) (m : List Float) → length H.state ≡ dim S → status (dim S) k H ≡ begin (dynamics S m h n) (initial splitmix64 (dim S) H.state time seed k)
-  pub bounded : Bounded k 0 0 H.progress
+pub record Begun (c : BenettinConfig) (time : Float) (x t ns : List Float) (r : Result Progress RefusedRun) : Type 0 where
+  pub status : (S : System) (m : List Float) → length x ≡ dim S
+      → status (dim S) c.top_k x t ns r ≡ begin (dynamics S m c.step_size c.steps_per_window) (initial splitmix64 (dim S) x time c.seed c.top_k)
+  pub bounded : IfOk r (λ p. Bounded c.top_k 0 0 p)
 
 -- ---- measured windows
 
--- what a window is recorded with: its logarithms, room for its row, and an accepted progress
-pub record Records (k n : ℕ) (ns r : List Float) (p : Progress) : Type 0 where
-  pub few : k ≤ 16
-  pub steps : n ≤ limit
-  pub norms : length ns ≡ 32
-  pub row : length r ≡ 1 + 2 * k
-  pub accepted : p.outcome ≡ Accepted
-  pub bounded : Bounded k (most + 1) most p
+-- what a window is recorded with: its logarithms, and room for its row
+pub record Records (c : BenettinConfig) (r : List Float) (p : Progress) : Type 0 where
+  pub few : c.top_k ≤ 16
+  pub steps : c.steps_per_window ≤ limit
+  pub row : length r ≡ 1 + 2 * c.top_k
+  pub bounded : Bounded c.top_k (most + 1) most p
 
 -- the rows slice, and how the run went on
 pub record Recorded : Type 0 where
@@ -85,11 +88,11 @@ with_row_of M old (ok c) = recorded (flat_row (row M (accumulate c))) (ok (accum
 with_row_of M old (refused r) = recorded old (refused r)
 
 -- a window that was made is recorded: its row, and p with one measured window more, whatever the system, the state and the directions are
-pub record WindowRecorded (k : ℕ) (h : Float) (n : ℕ) (norms : List Float) (p p' : Progress) (row' : List Float) : Type 0 where
-  pub row_left : (M : Dynamics) (d : ℕ) (x t old : List Float) → M.duration ≡ h ⊗ as_float n
-      → recorded row' (status d k (held x t norms p')) ≡ with_row_of M old (ok (run_state d k (held x t norms p)))
-  pub bounded : (made measured : ℕ) → Bounded k made measured p → Bounded k made (measured + 1) p'
+pub record WindowRecorded (c : BenettinConfig) (norms : List Float) (p p' : Progress) (row' : List Float) : Type 0 where
+  pub row_left : (M : Dynamics) (d : ℕ) (x t old : List Float) → M.duration ≡ c.step_size ⊗ as_float c.steps_per_window
+      → recorded row' (ok (run_state d c.top_k (held x t norms p'))) ≡ with_row_of M old (ok (run_state d c.top_k (held x t norms p)))
+  pub bounded : (made measured : ℕ) → Bounded c.top_k made measured p → Bounded c.top_k made (measured + 1) p'
 
-pub record MeasuredWindow (S : System) (m : List Float) (k : ℕ) (h : Float) (n : ℕ) (H : Held) (row : List Float) (H' : Held) (row' : List Float) : Type 0 where
-  pub row_left : recorded row' (status (dim S) k H') ≡ with_row_of (dynamics S m h n) row (window (dynamics S m h n) n (run_state (dim S) k H))
-  pub bounded : AllMeasured k 1 H H'
+pub record MeasuredWindow (S : System) (m : List Float) (c : BenettinConfig) (H : Held) (row x t ns row' : List Float) (r : Result Progress RefusedRun) : Type 0 where
+  pub row_left : (let D = dynamics S m c.step_size c.steps_per_window in recorded row' (status (dim S) c.top_k x t ns r) ≡ with_row_of D row (window D c.steps_per_window (run_state (dim S) c.top_k H)))
+  pub bounded : AllMeasured c.top_k 1 H.progress r

@@ -5,56 +5,42 @@ ghost use Rattle.system.specs.System.{dim};
 ghost use Rattle.rk4.specs.Tests as Tests;
 ghost use Rattle.progress.specs.UnderWay as Under;
 
-use error::{LyapunovError, Outcome};
+use benettin::BenettinConfig;
+use error::LyapunovError;
 use system::System;
 
-// What steps come to: how many were made, and the time after them.
+// Why a step is refused, and how many were made before it. Steps know of no windows, so it is no `RefusedRun`.
 #[derive(Clone, Copy)]
-pub struct Advance {
-    pub outcome: Outcome,
-    pub steps: u64,
-    pub time: f64,
+pub struct RefusedStep {
+    pub error: LyapunovError,
+    pub made: u64,
 }
 
-// Makes `n` steps from the time `start` on, up to the first that is refused.
+// Makes the steps of a window from the time `start` on, up to the first that is refused. Answers the time after them.
 pub fn advance_steps(
     system: System,
     matrix: &[f64],
     state: &mut [f64],
     tangents: &mut [f64],
-    k: usize,
-    h: f64,
-    n: u64,
+    config: BenettinConfig,
     start: f64,
-) -> Advance
-    requires { Tests.Passed system matrix.now state.old k h × (length tangents.old ≡ k * dim system) × (finite start ≡ true) }
-    ensures { Under.Advanced system matrix.now k h n start state.old tangents.old result state.new tangents.new }
+) -> Result<f64, RefusedStep>
+    requires { Tests.Passed system matrix.now state.old config.top_k config.step_size × (length tangents.old ≡ config.top_k * dim system) × (finite start ≡ true) }
+    ensures { Under.Advanced system matrix.now config start state.old tangents.old state.new tangents.new result }
 {
+    let k = config.top_k;
+    let h = config.step_size;
     let mut time = start;
-    let mut i: u64 = 0;
-    while i < n {
-        if let Outcome::Refused(e) = rk4::passed::step(system, matrix, state, tangents, k, h) {
-            return Advance {
-                outcome: Outcome::Refused(e),
-                steps: i,
-                time,
-            };
+    for made in 0..config.steps_per_window {
+        if let Err(error) = rk4::passed::step(system, matrix, state, tangents, k, h) {
+            return Err(RefusedStep { error, made });
         }
         let next = time + h;
-        if floats::is_finite(next) {
-            time = next;
-            i += 1;
-        } else {
-            return Advance {
-                outcome: Outcome::Refused(LyapunovError::InvalidTime),
-                steps: i,
-                time,
-            };
+        if !floats::is_finite(next) {
+            let error = LyapunovError::InvalidTime;
+            return Err(RefusedStep { error, made });
         }
+        time = next;
     }
-    Advance {
-        outcome: Outcome::Accepted,
-        steps: i,
-        time,
-    }
+    Ok(time)
 }

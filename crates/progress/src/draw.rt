@@ -4,25 +4,28 @@ ghost use Rattle.gram_schmidt.specs.GramSchmidt as GramSchmidt;
 ghost use Rattle.benettin.specs.Run as Run;
 ghost use Rattle.benettin.specs.Estimate as Estimate;
 
-use error::Outcome;
+use error::LyapunovError;
+use splitmix64::SplitMix64;
 
 // The directions, drawn one entry after the other.
 pub fn draw_directions(tangents: &mut [f64], seed: u64)
     ensures { tangents.new ≡ Run.draws Estimate.splitmix64 (length tangents.old) seed }
 {
-    let mut state = seed;
-    let mut i = 0;
-    while i < tangents.len() {
-        let draw = splitmix64::SplitMix64::new(state).symmetric_unit();
-        let generator = draw.generator;
-        tangents[i] = draw.value;
-        state = generator.state;
-        i += 1;
+    let mut generator = SplitMix64::new(seed);
+    for entry in tangents {
+        let (next, value) = generator.symmetric_unit();
+        *entry = value;
+        generator = next;
     }
 }
 
 // The drawn directions, orthonormalised.
-pub fn initialize_basis(tangents: &mut [f64], d: usize, norms: &mut [f64], seed: u64) -> Outcome
+pub fn initialize_basis(
+    tangents: &mut [f64],
+    d: usize,
+    norms: &mut [f64; 32],
+    seed: u64,
+) -> Result<(), LyapunovError>
     ensures { GramSchmidt.observed result tangents.new norms.new
         ≡ GramSchmidt.orthonormalised GramSchmidt.euclidean (Run.draws Estimate.splitmix64 (length tangents.old) seed) d norms.old }
 {

@@ -1,48 +1,45 @@
 // A run under way: begin, one window, one measured window with its row. Crate course has the loops over windows, and
-// crate estimator the whole run over them. record.rt has what is recorded of a measured window, for runs that take turns.
+// crate estimator the whole run over them. record.rt has what is recorded of a measured window.
 //
 // These functions are `pub` because other crates of ours go on with a run: each has a `requires`, which says what passed the
 // tests and how long the slices are. What a run carries lies in a `Progress` and in three slices: the state, the directions
-// one after the other, and their logarithms and squared lengths. Nothing is allocated. Start with totals/specs/Progress.antt,
-// which says which state of a run that stands for, and specs/UnderWay.antt, which says what each function leaves: the run
-// itself is defined in crate benettin. draw.rt, advance.rt and crate totals, which has `Progress` and the end of a run, have
-// the parts of these functions.
+// one after the other, and their logarithms and squared lengths. They stand side by side: a struct of lent slices needs a ghost
+// name for what is left in each, at every function, so a contract would say more and not less. Nothing is allocated. Start with
+// totals/specs/Progress.antt, which says which state of a run that stands for, and specs/UnderWay.antt, which says what each
+// function leaves: the run itself is defined in crate benettin. draw.rt, advance.rt and crate totals, which has `Progress` and
+// the end of a run, have the parts of these functions.
 #![tactic(auto)]
 
 mod advance;
 mod draw;
 pub mod record;
 
-ghost use Rattle.std.specs.Prelude.{◌*◌, ◌+◌, ◌≡◌, length};
-ghost use Rattle.totals.specs.Progress.{held};
+ghost use Rattle.std.specs.Prelude.{◌*◌, ◌+◌, ◌<◌, ◌≡◌, length};
+ghost use Rattle.totals.specs.Progress.{held, carried};
 ghost use Rattle.totals.specs.Ending.{most};
 ghost use Rattle.progress.specs.UnderWay as Under;
 
-use error::{LyapunovError, Outcome};
+use benettin::{BenettinConfig, RefusedRun};
+use error::LyapunovError;
 use system::System;
 use totals::Progress;
 
-// The directions are drawn and orthonormalised (14), then the duration of a window of n steps is tested (15).
+// The directions are drawn and orthonormalised (14), then the duration of a window is tested (15).
 pub fn begin(
     state: &[f64],
     tangents: &mut [f64],
-    norms: &mut [f64],
-    k: usize,
-    h: f64,
-    n: u64,
+    norms: &mut [f64; 32],
+    config: BenettinConfig,
     time: f64,
-    seed: u64,
-) -> Progress
-    requires { Under.Begins k n time state.now tangents.old norms.old }
-    ensures { Under.Begun k h n time seed (held state.now tangents.new norms.new result) }
+) -> Result<Progress, RefusedRun>
+    requires { Under.Begins config time state.now tangents.old }
+    ensures { Under.Begun config time state.now tangents.new norms.new result }
 {
-    if let Outcome::Refused(e) = draw::initialize_basis(tangents, state.len(), norms, seed) {
-        return totals::fresh(Outcome::Refused(e), time);
-    }
-    if floats::is_finite(totals::duration(h, n)) {
-        totals::fresh(Outcome::Accepted, time)
+    draw::initialize_basis(tangents, state.len(), norms, config.seed)?;
+    if floats::is_finite(totals::duration(config)) {
+        Ok(Progress::new(time))
     } else {
-        totals::fresh(Outcome::Refused(LyapunovError::InvalidWindowDuration), time)
+        Err(RefusedRun::from(LyapunovError::InvalidWindowDuration))
     }
 }
 
@@ -52,28 +49,36 @@ pub fn window(
     matrix: &[f64],
     state: &mut [f64],
     tangents: &mut [f64],
-    norms: &mut [f64],
-    k: usize,
-    h: f64,
-    n: u64,
-    from: Progress,
-) -> Progress
-    requires { Under.Fits system matrix.now k h n most most (held state.old tangents.old norms.old from) }
-    ensures { Under.Windowed system matrix.now k h n (held state.old tangents.old norms.old from)
-        (held state.new tangents.new norms.new result) }
+    norms: &mut [f64; 32],
+    config: BenettinConfig,
+    progress: &mut Progress,
+) -> Result<(), RefusedRun>
+    requires { Under.Fits system matrix.now config most most (held state.old tangents.old norms.old progress.old) }
+    ensures { Under.Windowed system matrix.now config (held state.old tangents.old norms.old progress.old)
+        state.new tangents.new norms.new (carried progress.new result) }
 {
-    let a = advance::advance_steps(system, matrix, state, tangents, k, h, n, from.time);
-    let v = a.outcome;
-    let Outcome::Accepted = v else {
-        return totals::after_steps(from, v, a.time, a.steps);
+    let time = match advance::advance_steps(
+        system,
+        matrix,
+        state,
+        tangents,
+        config,
+        progress.time,
+    ) {
+        Ok(time) => time,
+        Err(step) => {
+            progress.steps += step.made;
+            return Err(progress.refused(step.error));
+        }
     };
-    let o = gram_schmidt::modified_gram_schmidt(tangents, state.len(), norms);
-    let q = totals::after_steps(from, o, a.time, a.steps);
-    let Outcome::Accepted = o else {
-        return q;
-    };
+    progress.add_steps(time, config.steps_per_window);
+    if let Err(error) = gram_schmidt::modified_gram_schmidt(tangents, state.len(), norms) {
+        return Err(progress.refused(error));
+    }
+    let k = config.top_k;
     let e = k + k;
-    totals::count_faint(q, &norms[k..e])
+    progress.count_faint(&norms[k..e]);
+    Ok(())
 }
 
 // One measured window: the window, the sums, and its row.
@@ -82,25 +87,16 @@ pub fn measured_window(
     matrix: &[f64],
     state: &mut [f64],
     tangents: &mut [f64],
-    norms: &mut [f64],
+    norms: &mut [f64; 32],
     row: &mut [f64],
-    k: usize,
-    h: f64,
-    n: u64,
-    from: Progress,
-) -> Progress
-    requires { Under.Fits system matrix.now k h n most most (held state.old tangents.old norms.old from) × (length row.old ≡ 1 + 2 * k) }
-    ensures { Under.MeasuredWindow system matrix.now k h n (held state.old tangents.old norms.old from) row.old
-        (held state.new tangents.new norms.new result) row.new }
+    config: BenettinConfig,
+    progress: &mut Progress,
+) -> Result<(), RefusedRun>
+    requires { Under.Fits system matrix.now config most most (held state.old tangents.old norms.old progress.old) × (length row.old ≡ 1 + 2 * config.top_k) }
+    ensures { Under.MeasuredWindow system matrix.now config (held state.old tangents.old norms.old progress.old) row.old
+        state.new tangents.new norms.new row.new (carried progress.new result) }
 {
-    let q = window(system, matrix, state, tangents, norms, k, h, n, from);
-    let v = q.outcome;
-    let Outcome::Accepted = v else {
-        return q;
-    };
-    let p = totals::add_logs(q, &norms[..k]);
-    let length = totals::duration(h, n);
-    let elapsed = length * totals::as_float(p.windows);
-    totals::write_row(row, &norms[..k], Progress { ..p }, length, elapsed);
-    p
+    window(system, matrix, state, tangents, norms, config, progress)?;
+    record::record_window(norms, row, config, progress);
+    Ok(())
 }

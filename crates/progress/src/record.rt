@@ -1,23 +1,22 @@
 // What is recorded of a measured window, alone: crate dispatch makes a window and records it in two calls.
 ghost use Rattle.progress.specs.UnderWay as Under;
 
+use benettin::BenettinConfig;
 use totals::Progress;
 
 // What a measured window adds once it is made: the sums, and its row.
 pub fn record_window(
-    norms: &[f64],
+    norms: &[f64; 32],
     row: &mut [f64],
-    k: usize,
-    h: f64,
-    n: u64,
-    made: Progress,
-) -> Progress
-    requires { Under.Records k n norms.now row.old made }
-    ensures { Under.WindowRecorded k h n norms.now made result row.new }
+    config: BenettinConfig,
+    progress: &mut Progress,
+)
+    requires { Under.Records config row.old progress.old }
+    ensures { Under.WindowRecorded config norms.now progress.old progress.new row.new }
 {
-    let p = totals::add_logs(made, &norms[..k]);
-    let length = totals::duration(h, n);
-    let elapsed = length * totals::as_float(p.windows);
-    totals::write_row(row, &norms[..k], Progress { ..p }, length, elapsed);
-    p
+    let logs = &norms[..config.top_k];
+    progress.add_logs(logs);
+    let duration = totals::duration(config);
+    let elapsed = duration * totals::as_float(progress.windows);
+    totals::write_row(row, logs, progress, duration, elapsed);
 }

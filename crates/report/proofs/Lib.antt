@@ -1,5 +1,4 @@
 -- The laws that the functions' proofs cite, one subject a file.
 pub mod Decoding
-pub mod Numerals
-pub mod Appending
+pub mod Lines
 pub mod Texts

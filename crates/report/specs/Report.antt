@@ -1,19 +1,19 @@
 -- The text for an input: document 01, "Program `spectrum`". Definitions only.
-use Rattle.std.specs.Prelude.{◌≡◌, cond, List, [], ◌∷◌, ◌++◌, ℕ, ◌+◌, ◌/◌, ◌%◌, ◌≤◌, ltb, eqb, length, take, Float}
+use Rattle.std.specs.Prelude.{cond, List, ◌++◌, ℕ, ◌/◌, ◌%◌, ltb, eqb, length, codes, decimal, Float, Result, Ok, Err}
+use Rattle.std.specs.Fmt as fmt
 use Rattle.std.specs.Float.{binary64}
 use Rattle.std.specs.Float.Ieee.{to_bits}
+use Rattle.error.specs.declared.LyapunovError.{LyapunovError}
 use Rattle.error.specs.declared.Refusal.{Refusal}
-use Rattle.error.specs.Refusal.{Answer, value, refused, refuse}
+use Rattle.error.specs.Refusal.{Answer, value, refused, refuse, refusal}
 use Rattle.diagnostics.specs.Rates.{dimension, entropy}
-use Rattle.report.specs.declared.Text.{Text}
 use Rattle.report.specs.Bytes.{decoded}
-use Rattle.report.specs.Digits.{digits, decimal}
+use Rattle.report.specs.Digits.{digits}
 
--- ---- the text
 -- a bit pattern as a line: 16 hexadecimal digits and the line's end
 unfoldable pub line : ℕ → List ℕ
 unfolding digits
-line n = digits 16 16 n ++ (10 ∷ [])
+line n = digits 16 16 n ++ codes "\n"
 
 -- the line of the dimension, then that of the entropy
 unfoldable pub values_text : Float → Float → List ℕ
@@ -22,8 +22,8 @@ values_text d e = line (to_bits binary64 d) ++ line (to_bits binary64 e)
 
 -- `refused N P`, number and place in decimal
 unfoldable pub refusal_text : Refusal → List ℕ
-unfolding decimal
-refusal_text r = (114 ∷ 101 ∷ 102 ∷ 117 ∷ 115 ∷ 101 ∷ 100 ∷ 32 ∷ []) ++ decimal r.number ++ (32 ∷ []) ++ decimal r.place ++ (10 ∷ [])
+unfolding fmt.digits
+refusal_text r = codes "refused " ++ decimal r.number ++ codes " " ++ decimal r.place ++ codes "\n"
 
 -- both values, or the first refusal
 abbrev pub diagnostics_text : Answer Float → Answer Float → List ℕ
@@ -43,16 +43,7 @@ output bs =
     (cond (eqb (length bs % 8) 0) (exponents_text (decoded (length bs / 8) bs))
     (refusal_text (refuse 23 0)))
 
--- ---- the text in the code
-abbrev pub contents : Text → List ℕ
-contents t = take t.len t.bytes
-
--- t is the text l
-pub record Holds (t : Text) (l : List ℕ) : Type 0 where
-  pub fits : t.len ≤ 50
-  pub text : contents t ≡ l
-
--- r is the text t with l after it
-pub record Appended (t : Text) (l : List ℕ) (r : Text) : Type 0 where
-  pub len : r.len ≡ t.len + length l
-  pub text : contents r ≡ contents t ++ l
+-- the text for what the code answers: the dimension and the entropy, or what is refused
+abbrev pub text : Result (Float × Float) LyapunovError → List ℕ
+text (Ok v) = values_text v.0 v.1
+text (Err e) = refusal_text (refusal e)

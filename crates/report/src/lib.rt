@@ -5,44 +5,20 @@
 // Start with specs/Report.antt; specs/Marked.antt has document 01's example.
 #![tactic(auto)]
 
-ghost use Rattle.std.specs.Prelude.{◌≡◌, ◌+◌, ◌*◌, ◌≤◌, ◌<◌, length, take, drop};
+ghost use Rattle.std.specs.Prelude.{◌≡◌, ◌++◌, ◌+◌, ◌/◌, ◌≤◌, ◌<◌, length};
 ghost use Rattle.std.specs.Float.{binary64};
 ghost use Rattle.std.specs.Float.Ieee.{of_bits};
 ghost use Rattle.error.specs.Refusal.{refusal};
-ghost use Rattle.diagnostics.specs.Rates.{answer};
 ghost use Rattle.report.specs.Bytes as Bytes;
 ghost use Rattle.report.specs.Digits as Digits;
 ghost use Rattle.report.specs.Report as Report;
 
-use diagnostics::Diagnostic;
-use error::LyapunovError;
+use arrayvec::{ArrayString, ArrayVec};
+use error::{LyapunovError, Refusal};
+use itoa::Buffer;
 
-// The first len bytes are the text. The longest is a refusal with two numbers of 20 digits.
-#[derive(Clone, Copy)]
-pub struct Text {
-    pub bytes: [u8; 50],
-    pub len: usize,
-}
-
-fn widen(byte: u8) -> u64
-    ensures { (result ≡ byte) × (result < 256) }
-{
-    byte as u64
-}
-
-// The little-endian number of the eight bytes from at on, read from the last.
-fn from_le_bytes(bytes: &[u8], at: usize) -> u64
-    requires { at + 8 ≤ length bytes.now }
-    ensures { result ≡ Bytes.little_endian (take 8 (drop at bytes.now)) }
-{
-    let mut n: u64 = 0;
-    let mut i = 0usize;
-    while i < 8 {
-        i += 1;
-        n = n * 256 + widen(bytes[at + 8 - i]);
-    }
-    n
-}
+// The longest text is a refusal with two numbers of 20 digits.
+pub type Text = ArrayString<50>;
 
 // The float of a bit pattern. Every NaN's pattern gives the one NaN.
 fn from_bits(pattern: u64) -> f64
@@ -55,153 +31,94 @@ fn from_bits(pattern: u64) -> f64
     }
 }
 
-fn decode(bytes: &[u8], out: &mut [f64])
-    requires { length bytes.now ≡ length out.old * 8 }
-    ensures { out.new ≡ Bytes.decoded (length out.old) bytes.now }
+fn decode(bytes: &[u8]) -> ArrayVec<f64, 256>
+    requires { length bytes.now ≤ 2048 }
+    ensures { result.items ≡ Bytes.decoded (length bytes.now / 8) bytes.now }
 {
-    let mut i = 0;
-    while i < out.len() {
-        out[i] = from_bits(from_le_bytes(bytes, i * 8));
-        i += 1;
+    let (patterns, _) = bytes.as_chunks::<8>();
+    let mut exponents = ArrayVec::new();
+    for pattern in patterns {
+        exponents.push(from_bits(u64::from_le_bytes(*pattern)));
     }
+    exponents
 }
 
-fn digit(d: u64) -> u8
-    requires { d < 16 }
-    ensures { result ≡ Digits.digit d }
+// The dimension and the entropy of the exponents.
+#[tactic(auto, using(crate::proofs::Texts::rates_steps))]
+fn rates(exponents: &[f64]) -> Result<(f64, f64), LyapunovError>
+    ensures { Report.text result ≡ Report.exponents_text exponents.now }
 {
-    if d < 10 { 48 + d as u8 } else { 87 + d as u8 }
+    let dimension = diagnostics::kaplan_yorke_dimension(exponents)?;
+    let entropy = diagnostics::kolmogorov_sinai_entropy(exponents)?;
+    Ok((dimension, entropy))
 }
 
-// The last 20 digits of n, which are enough for any n from base 10 on.
-fn digits(base: u64, n: u64) -> [u8; 20]
-    requires { (0 < base) × (base ≤ 16) }
-    ensures { result ≡ Digits.digits base 20 n }
-{
-    let mut out = [0u8; 20];
-    let mut rest = n;
-    let mut i = 20usize;
-    while i > 0 {
-        i -= 1;
-        out[i] = digit(rest % base);
-        rest /= base;
-    }
-    out
-}
-
-fn decimal_width(n: u64) -> usize
-    ensures { result ≡ Digits.decimal_width n }
-{
-    let mut rest = n;
-    let mut width = 1usize;
-    while width < 20 && rest >= 10 {
-        rest /= 10;
-        width += 1;
-    }
-    width
-}
-
-fn empty() -> Text
-    ensures { result.len ≡ 0 }
-{
-    Text {
-        bytes: [0; 50],
-        len: 0,
-    }
-}
-
-fn append(text: Text, bytes: &[u8]) -> Text
-    requires { text.len + length bytes.now ≤ 50 }
-    ensures { Report.Appended text bytes.now result }
-{
-    let at = text.len;
-    let mut out = text.bytes;
-    let mut i = 0;
-    while i < bytes.len() {
-        out[at + i] = bytes[i];
-        i += 1;
-    }
-    Text {
-        bytes: out,
-        len: at + i,
-    }
-}
-
-fn append_digits(text: Text, base: u64, width: usize, n: u64) -> Text
-    requires { (0 < base) × (base ≤ 16) × (width ≤ 20) × (text.len + width ≤ 50) }
-    ensures { Report.Appended text (Digits.digits base width n) result }
-{
-    let all = digits(base, n);
-    let from = 20 - width;
-    append(text, &all[from..])
-}
-
-fn append_line(text: Text, pattern: u64) -> Text
-    requires { text.len + 17 ≤ 50 }
-    ensures { Report.Appended text (Report.line pattern) result }
-{
-    append(append_digits(text, 16, 16, pattern), b"\n")
-}
-
-fn append_decimal(text: Text, n: u64) -> Text
-    requires { text.len + 20 ≤ 50 }
-    ensures { Report.Appended text (Digits.decimal n) result }
-{
-    append_digits(text, 10, decimal_width(n), n)
-}
-
-fn values_text(dimension: f64, entropy: f64) -> Text
-    ensures { Report.Holds result (Report.values_text dimension entropy) }
-{
-    let first = append_line(empty(), floats::to_bits(dimension));
-    append_line(first, floats::to_bits(entropy))
-}
-
-fn refusal_text(error: LyapunovError) -> Text
-    ensures { Report.Holds result (Report.refusal_text (refusal error)) }
-{
-    let word = append(empty(), b"refused ");
-    let number = append_decimal(word, error::number(error));
-    let space = append(number, b" ");
-    let place = append_decimal(space, error::place(error) as u64);
-    append(place, b"\n")
-}
-
-fn diagnostics_text(dimension: Diagnostic, entropy: Diagnostic) -> Text
-    ensures { Report.Holds result (Report.diagnostics_text (answer dimension) (answer entropy)) }
-{
-    match dimension {
-        Diagnostic::Value(d) => match entropy {
-            Diagnostic::Value(e) => values_text(d, e),
-            Diagnostic::Refused(error) => refusal_text(error),
-        },
-        Diagnostic::Refused(error) => refusal_text(error),
-    }
-}
-
-// The text for bytes that are whole floats, which are decoded into a slice of as many floats.
-fn report_in(exponents: &mut [f64], bytes: &[u8]) -> Text
-    requires { length bytes.now ≡ length exponents.old * 8 }
-    ensures { Report.Holds result (Report.exponents_text (Bytes.decoded (length exponents.old) bytes.now)) }
-{
-    decode(bytes, exponents);
-    let dimension = diagnostics::kaplan_yorke_dimension(exponents);
-    let entropy = diagnostics::kolmogorov_sinai_entropy(exponents);
-    diagnostics_text(dimension, entropy)
-}
-
-pub fn report(bytes: &[u8]) -> Text
-    ensures { Report.Holds result (Report.output bytes.now) }
+// Those of the exponents in bytes.
+#[tactic(auto, using(crate::proofs::Texts::output_steps))]
+fn values(bytes: &[u8]) -> Result<(f64, f64), LyapunovError>
+    ensures { Report.text result ≡ Report.output bytes.now }
 {
     let n = bytes.len();
     if n > 2048 {
-        return refusal_text(LyapunovError::TooManyExponents);
+        return Err(LyapunovError::TooManyExponents);
     }
-    if n % 8 == 0 {
-        let mut exponents = [0.0; 256];
-        let count = n / 8;
-        report_in(&mut exponents[..count], bytes)
-    } else {
-        refusal_text(LyapunovError::IncompleteBytes)
+    if n % 8 != 0 {
+        return Err(LyapunovError::IncompleteBytes);
+    }
+    rates(&decode(bytes))
+}
+
+// `char::from_digit` would answer an `Option` to be opened.
+fn digit(d: u64) -> char
+    requires { d < 16 }
+    ensures { result ≡ Digits.digit d }
+{
+    let d = d as u8;
+    char::from(if d < 10 { b'0' + d } else { b'a' - 10 + d })
+}
+
+// Appends a bit pattern as a line of 16 hexadecimal digits. They are pushed one by one: a proof does not compute a whole format.
+#[tactic(auto, using(crate::proofs::Lines::line_steps), unfolding(crate::specs::Report::line))]
+fn push_line(text: &mut Text, pattern: u64)
+    requires { length text.old.bytes + 17 ≤ 50 }
+    ensures { text.new.bytes ≡ text.old.bytes ++ Report.line pattern }
+{
+    for i in 0..16u32 {
+        text.push(digit((pattern >> (60 - 4 * i)) % 16));
+    }
+    text.push('\n');
+}
+
+#[tactic(auto, using(crate::proofs::Lines::line_length), unfolding(crate::specs::Report::values_text))]
+fn values_text(dimension: f64, entropy: f64) -> Text
+    ensures { result.bytes ≡ Report.values_text dimension entropy }
+{
+    let mut text = Text::new();
+    push_line(&mut text, floats::to_bits(dimension));
+    push_line(&mut text, floats::to_bits(entropy));
+    text
+}
+
+fn refusal_text(error: LyapunovError) -> Text
+    ensures { result.bytes ≡ Report.refusal_text (refusal error) }
+{
+    let refusal = Refusal::from(error);
+    let mut number = Buffer::new();
+    let mut place = Buffer::new();
+    let mut text = Text::new();
+    text.push_str("refused ");
+    text.push_str(number.format(refusal.number));
+    text.push(' ');
+    text.push_str(place.format(refusal.place));
+    text.push('\n');
+    text
+}
+
+pub fn report(bytes: &[u8]) -> Text
+    ensures { result.bytes ≡ Report.output bytes.now }
+{
+    match values(bytes) {
+        Ok((dimension, entropy)) => values_text(dimension, entropy),
+        Err(error) => refusal_text(error),
     }
 }

@@ -8,18 +8,15 @@ use Rattle.benettin.specs.Outputs.{Estimated, outputs}
 use Rattle.benettin.specs.declared.BenettinConfig.{BenettinConfig}
 use Rattle.system.specs.declared.System.{System}
 use Rattle.store.specs.Slots.{Memory, tag_at, windows_at, stood_at}
-use Rattle.store.specs.Promises.{Sized}
 
 -- a run in slot j, which is in use, goes on once its tests are passed, with these slices
-pub record Resumes (S : System) (m x t ns rows es fs : List Float) (c : BenettinConfig) (j : ℕ) (M : Memory) : Type 0 where
-  pub memory : Sized M
+pub record Resumes (S : System) (m x t rows es fs : List Float) (c : BenettinConfig) (j : ℕ) (M : Memory) : Type 0 where
   pub slot : j < 8
   pub used : tag_at j M ≢ 0
   pub passed : Passed S m x c.top_k c.step_size
   pub steps : c.steps_per_window ≤ limit
   pub windows : windows_at j M + c.windows ≤ limit
   pub tangents : length t ≡ c.top_k * length x
-  pub norms : length ns ≡ 32
   pub rows_room : c.windows * (1 + 2 * c.top_k) ≤ length rows
   pub exponents : c.top_k ≤ length es
   pub state : dim S ≤ length fs

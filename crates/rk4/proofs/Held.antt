@@ -22,11 +22,11 @@ module _ {d v : ℕ} (x : List Float) (sized : length x ≡ d) (copied : d ≤ v
 
 -- in memory
 module _ {d : ℕ} (x : List Float) (sized : length x ≡ d) where
-  pub loaded_front : (z : List Float) {b : List Float} → b ≡ x ++ z → take d b ≡ x
-  loaded_front z e = rw e (take_at x z d sized)
+  pub loaded_front : (z : List Float) {b : List Float} → b ≡ take (length x) x ++ z → take d b ≡ x
+  loaded_front z e = rw (e, take_all (length x) x (omega arith)) (take_at x z d sized)
 
-  pub stored_front : (n y : List Float) → y ≡ take (length x) n → y ≡ take d n
-  stored_front n y e = rw sized at e
+  pub stored_front : (n y : List Float) → y ≡ take (length x) n ++ drop (length x) x → y ≡ take d n
+  stored_front n y e = let q : length x ≤ length x = omega arith in e ∙ rw (drop_of_length-le x q, ← sized) (append-nil (take (length x) n))
 
 -- the arrays of the four stage points
 

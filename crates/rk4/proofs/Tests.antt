@@ -1,39 +1,19 @@
--- A step called alone: what is answered, its tests, and what is known once all are passed.
+-- A step called alone: what is known once all its tests are passed.
 use Prim.Native.Nat.{ℕ, ◌*◌, ◌≤◌}
-use mathlib.Core.Path.{◌≡◌, ap, ◌∙◌}
+use mathlib.Core.Path.{◌≡◌, ◌∙◌}
 use mathlib.Core.Bool.{true}
 use mathlib.Core.List.{List}
-use mathlib.Core.Option.{Option, none, some}
+use mathlib.Core.Option.{none}
 use borrow.Author.Tests.{leb-true, eqb-true}
 use lib.ListN.{length}
 use lib.Ieee.{Float}
 use lib.Ieee.Scale.{finite}
 use Rattle.error.specs.Tests.{first_failing}
-use Rattle.error.specs.declared.Refusal.{Refusal}
 use Rattle.error.proofs.Tests.{passed, both_passed}
-use Rattle.floats.specs.Finite.{first_not_finite, index}
-use Rattle.floats.specs.declared.Position.{Position}
-use Rattle.floats.specs.declared.Position.TheVariants.{At, Nowhere}
 use Rattle.system.specs.System.{dim}
 use Rattle.system.specs.declared.System.{System}
 use Rattle.system_validation.proofs.Tests.{dimension_passed, matrix_passed, length_passed, time_passed, step_size_passed}
 use Rattle.rk4.specs.Tests.{tangent_tests, step_tests, Passed}
-use Rattle.rk4.specs.Step.{Stepped, not_finite, advanced, stepped}
-use Rattle.rk4.specs.Stages.{tested_finite}
-
--- ---- 16 and 17, by what the code found
-
-module _ {P : Position} {o : Option ℕ} (e : index P ≡ o) where
-  pub found : (i : ℕ) → P ≡ At i → some i ≡ o
-  found i f = cc
-
-  pub found_none : P ≡ Nowhere → none ≡ o
-  found_none f = cc
-
--- the answer beside the slices
-pub answered : {o : Option Refusal} {y vs : List Float} {A : Stepped} → o ≡ not_finite (first_not_finite y) (first_not_finite vs) → tested_finite y vs ≡ A
-    → record { refusal = o; state = y; tangents = vs } ≡ A
-answered {y = y} {vs = vs} e f = ap (λ (o : Option Refusal). record { refusal = o; state = y; tangents = vs }) e ∙ f
 
 -- ---- what passing a block gives
 
@@ -64,16 +44,6 @@ module _ (S : System) (m : List Float) (time : Float) (x t : List Float) (n : �
         tangents.1,
         time_passed time f.0,
       )
-
-  -- where no test fails the step is made
-  pub stepped_accepted : none ≡ first_failing (step_tests S m time x t n h) → stepped S m time x t n h ≡ advanced S m x t n h
-  unfolding stepped
-  stepped_accepted e = rw (← e)
-
-  -- where one fails nothing is changed
-  pub stepped_refused : (r : Refusal) → some r ≡ first_failing (step_tests S m time x t n h) → stepped S m time x t n h ≡ record { refusal = some r; state = x; tangents = t }
-  unfolding stepped
-  stepped_refused r e = rw (← e)
 
 -- another state of the same length passes too
 pub passed_kept : {S : System} {m x x' : List Float} {k : ℕ} {h : Float} → length x' ≡ length x → Passed S m x k h → Passed S m x' k h

@@ -1,10 +1,10 @@
 -- Document 01, "Step", called alone: its tests, then 16 and 17, and what the two slices hold afterwards. Definitions only.
-use Rattle.std.specs.Prelude.{ℕ, List, map, Float}
+use Rattle.std.specs.Prelude.{ℕ, List, map, Float, Result}
 use Rattle.std.proofs.Math.Option.{Option, none, some}
 use Rattle.error.specs.Refusal.{refuse, reported}
 use Rattle.error.specs.Tests.{first_failing}
 use Rattle.error.specs.declared.Refusal.{Refusal}
-use Rattle.error.specs.declared.Outcome.{Outcome}
+use Rattle.error.specs.declared.LyapunovError.{LyapunovError}
 use Rattle.floats.specs.Finite.{first_not_finite}
 use Rattle.floats.specs.Vector.{chunks, concat}
 use Rattle.stepper.specs.Stepper.{advance_by, rk4}
@@ -48,5 +48,5 @@ unfolding first_failing advanced
 stepped S m time x t n h = unless (first_failing (step_tests S m time x t n h)) x t (advanced S m x t n h)
 
 -- what the code's answer and its slices stand for
-abbrev pub observed : Outcome → List Float → List Float → Stepped
+abbrev pub observed : Result Unit LyapunovError → List Float → List Float → Stepped
 observed r x t = record { refusal = reported r; state = x; tangents = t }

@@ -1,6 +1,7 @@
 // Vectors in arrays of 16, and vectors that lie one after the other in a slice. `zero_padded` and `copy_front` are for arrays in
-// registers: the width is known where they are compiled, so that the loop unrolls. `load` and `store` are for arrays in memory:
-// they copy pairs, which stay whole between two loops.
+// registers: the width is known where they are compiled, so that the loop unrolls. `copy_pairs` is for arrays in memory: pairs
+// stay whole between two loops (docs/DECISIONS.md, 17, has what was tried). A width is at most 16, as the arrays are: an `Fn` that is
+// passed can't name a const parameter.
 ghost use Rattle.std.specs.Prelude.{◌≡◌, ◌*◌, ◌≤◌, ◌++◌, List, map, length, take, drop, Float};
 ghost use Rattle.floats.specs.Vector.{chunks, concat};
 ghost use Rattle.system.specs.Array.{in16};
@@ -32,35 +33,18 @@ pub fn copy_front<const WIDTH: usize>(out: &mut [f64], from: [f64; 16])
     }
 }
 
-// A vector into the front of an array, which stays as it is behind it.
-pub fn load(out: &mut [f64; 16], v: &[f64])
-    requires { (length out.old ≡ 16) × (length v.now ≤ 16) }
-    ensures { (length out.new ≡ 16) × (out.new ≡ v.now ++ drop (length v.now) out.old) }
+// The first n floats of one slice into another, in pairs.
+pub fn copy_pairs(out: &mut [f64], from: &[f64], n: usize)
+    requires { (n ≤ length out.old) × (n ≤ length from.now) }
+    ensures { out.new ≡ take n from.now ++ drop n out.old }
 {
-    let n = v.len();
     for pair in 0..n / 2 {
         let i = 2 * pair;
-        out[i] = v[i];
-        out[i + 1] = v[i + 1];
+        out[i] = from[i];
+        out[i + 1] = from[i + 1];
     }
     if n % 2 == 1 {
-        out[n - 1] = v[n - 1];
-    }
-}
-
-// The front of an array into a vector.
-pub fn store(v: &mut [f64], from: [f64; 16])
-    requires { length v.old ≤ 16 }
-    ensures { v.new ≡ take (length v.old) from }
-{
-    let n = v.len();
-    for pair in 0..n / 2 {
-        let i = 2 * pair;
-        v[i] = from[i];
-        v[i + 1] = from[i + 1];
-    }
-    if n % 2 == 1 {
-        v[n - 1] = from[n - 1];
+        out[n - 1] = from[n - 1];
     }
 }
 

@@ -9,6 +9,9 @@
 // numbers live: fixed.rt (width 3, in registers), narrow.rt (8, in registers) and wide.rt (16, in memory; any system). A
 // method adds its formulas and its stages to crate stepper, and its stages to wide.rt once more; a system adds its formulas to
 // crate system: no body is for one system (docs/DEFINITIONS.md has what each would add).
+//
+// The bodies ask for a dimension of at most 8 or 16, and for slices of as many entries: tests 7 to 10 and 19 come before them, and
+// the type of one slice can't say what it has to do with another. The matrix is lent beside the enum of systems, document 01's form.
 #![tactic(auto)]
 
 mod arrays;
@@ -24,7 +27,7 @@ ghost use Rattle.rk4.specs.Tests.{Passed};
 ghost use Rattle.rk4.specs.Step.{advanced, stepped, observed};
 ghost use Rattle.rk4.specs.Stages.{tested_finite};
 
-use error::Outcome;
+use error::LyapunovError;
 use system::System;
 
 // The state and every direction, by the body that is fastest. A matrix of more than 8 rows is transposed here, so that only a
@@ -71,10 +74,10 @@ pub fn step(
     tangents: &mut [f64],
     tangent_count: usize,
     step_size: f64,
-) -> Outcome
+) -> Result<(), LyapunovError>
     ensures { observed result state.new tangents.new ≡ stepped system matrix.now time state.old tangents.old tangent_count step_size }
 {
-    let tested = validation::validate_step_inputs(
+    validation::validate_step_inputs(
         system,
         matrix,
         time,
@@ -82,9 +85,6 @@ pub fn step(
         tangents,
         tangent_count,
         step_size,
-    );
-    if let Outcome::Refused(error) = tested {
-        return Outcome::Refused(error);
-    }
+    )?;
     passed::step(system, matrix, state, tangents, tangent_count, step_size)
 }

@@ -18,7 +18,7 @@ fn advance_vector(columns: &[f64], d: usize, v: &mut [f64], h: f64)
     let x1 = arrays::zero_padded::<8>(v);
     let advanced = stepper::advance::<8, _>(
         |_, x|
-            requires { (d ≤ 8) × (8 * d ≤ length columns.now) × (length x.now ≡ 16) }
+            requires { (d ≤ 8) × (8 * d ≤ length columns.now) }
             ensures { (m : List Float) → length m ≡ d * d → Transposed 8 d m columns.entry.now → take d result ≡ times (chunks d d m) (take d x.now) }
         { matrix::product::<8>(columns, d, x) },
         x1,

@@ -4,8 +4,7 @@ ghost use Rattle.system.specs.System.{dim};
 ghost use Rattle.rk4.specs.Tests.{Passed};
 ghost use Rattle.rk4.specs.Step.{advanced, observed};
 
-use error::{LyapunovError, Outcome};
-use floats::Position;
+use error::LyapunovError;
 use system::System;
 
 // 16 or 17 by the first entry that is not finite.
@@ -16,16 +15,16 @@ pub fn step(
     tangents: &mut [f64],
     count: usize,
     h: f64,
-) -> Outcome
+) -> Result<(), LyapunovError>
     requires { Passed system matrix.now state.old count h × (length tangents.old ≡ count * dim system) }
     ensures { observed result state.new tangents.new ≡ advanced system matrix.now state.old tangents.old count h }
 {
     crate::advance_values(system, matrix, state, tangents, count, h);
-    if let Position::At(i) = floats::first_not_finite(state) {
-        return Outcome::Refused(LyapunovError::NonFiniteState(i));
+    if let Some(i) = floats::first_not_finite(state) {
+        return Err(LyapunovError::NonFiniteState(i));
     }
-    if let Position::At(i) = floats::first_not_finite(tangents) {
-        return Outcome::Refused(LyapunovError::NonFiniteTangent(i));
+    if let Some(i) = floats::first_not_finite(tangents) {
+        return Err(LyapunovError::NonFiniteTangent(i));
     }
-    Outcome::Accepted
+    Ok(())
 }

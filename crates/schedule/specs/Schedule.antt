@@ -105,7 +105,7 @@ abbrev pub laid_settings : ℕ → Job → List Float → List Float
 laid_settings j r f = let n = numbers r.system in sets f (4 * j) (r.step_size ∷ n.p0 ∷ n.p1 ∷ n.p2 ∷ [])
 
 abbrev pub laid_counts : ℕ → Job → List ℕ → List ℕ
-laid_counts j r q = sets q (7 * j) ((numbers r.system).kind ∷ dim r.system ∷ r.rates ∷ r.steps ∷ r.windows ∷ r.warm_up ∷ r.warmed ∷ [])
+laid_counts j r q = let n = numbers r.system in sets q (7 * j) (n.kind ∷ n.dimension ∷ r.rates ∷ r.steps ∷ r.windows ∷ r.warm_up ∷ r.warmed ∷ [])
 
 -- a new run, named j, at the back of the queue
 unfoldable pub taken_in : ℕ → Job → Memory → Memory

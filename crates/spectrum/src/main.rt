@@ -4,25 +4,14 @@
 // enough to see that the input is too long. Further stored runs are in `spectrum_cases`.
 #![tactic(auto)]
 
+use arrayvec::ArrayVec;
 use std::io;
 use std::io::{Read, Write};
 
 const LONGEST: usize = 2049;
 
 fn main(rt: HostRuntime) -> io::Result<()> {
-    let mut input = [0u8; LONGEST];
-    let mut reader = rt.stdin();
-    let mut n = 0usize;
-    // A read that gives nothing is the input's end, or the array is full: one more read than there are bytes sees either.
-    for _ in 0..LONGEST + 1 {
-        let more = reader.read(&mut input[n..])?;
-        if more == 0 {
-            break;
-        }
-        n += more;
-    }
-    let text = report::report(&input[..n]);
-    let len = text.len;
-    let bytes = text.bytes;
-    rt.stdout().write_all(&bytes[..len])
+    let mut input = ArrayVec::<u8, LONGEST>::new();
+    io::copy(&mut rt.stdin().take(LONGEST as u64), &mut input)?;
+    rt.stdout().write_all(report::report(&input).as_bytes())
 }

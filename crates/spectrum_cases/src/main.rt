@@ -4,46 +4,39 @@
 // refusal, and exactly 2,048 and 2,049 bytes.
 #![tactic(auto)]
 
+use arrayvec::ArrayVec;
 use std::io;
 use std::io::{Read, Write};
 
-const CASES: usize = 16;
-
-const STARTS: [usize; CASES] = [
-    0, 0, 0, 0, 0, 0, 0, 8, 1976, 1968, 2048, 2056, 24, 48, 16, 56,
-];
-
-const ENDS: [usize; CASES] = [
-    0, 7, 24, 25, 2048, 2049, 2056, 2056, 2056, 2056, 2056, 2080, 48, 56, 32, 72,
+// Where each part begins, and where it ends.
+const CASES: [(usize, usize); 16] = [
+    (0, 0),
+    (0, 7),
+    (0, 24),
+    (0, 25),
+    (0, 2048),
+    (0, 2049),
+    (0, 2056),
+    (8, 2056),
+    (1976, 2056),
+    (1968, 2056),
+    (2048, 2056),
+    (2056, 2080),
+    (24, 48),
+    (48, 56),
+    (16, 32),
+    (56, 72),
 ];
 
 const LONGEST: usize = 2080;
 
 fn main(rt: HostRuntime) -> io::Result<()> {
-    let mut input = [0u8; LONGEST];
-    let mut reader = rt.stdin();
-    let mut n = 0usize;
-    // A read that gives nothing is the input's end, or the array is full: one more read than there are bytes sees either.
-    for _ in 0..LONGEST + 1 {
-        let more = reader.read(&mut input[n..])?;
-        if more == 0 {
-            break;
+    let mut input = ArrayVec::<u8, LONGEST>::new();
+    io::copy(&mut rt.stdin().take(LONGEST as u64), &mut input)?;
+    for (start, end) in CASES {
+        if let Some(part) = input.get(start..end) {
+            rt.stdout().write_all(report::report(part).as_bytes())?;
         }
-        n += more;
-    }
-    let mut i = 0usize;
-    while i < CASES {
-        let start = STARTS[i];
-        let end = ENDS[i];
-        if start <= end {
-            if end <= n {
-                let text = report::report(&input[start..end]);
-                let len = text.len;
-                let bytes = text.bytes;
-                rt.stdout().write_all(&bytes[..len])?;
-            }
-        }
-        i += 1;
     }
     Ok(())
 }

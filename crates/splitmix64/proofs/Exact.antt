@@ -1,8 +1,8 @@
 -- z / 2 ^ 52 as the code has it, z as a float divided by 2 ^ 52, is `fraction z (2 ^ 52)`, for a whole z of at most 53 digits; and that is exact.
-use Rattle.std.proofs.Common.{◌≡◌, ℕ, suc, ◌-◌, ◌*◌, ◌/◌, ◌^◌, ◌<◌, ◌≤◌, Bool, true, false, cond, T, ltb, ℤ, pos, negsuc, ◌-ℤ◌, sym, refl, ap, ◌∙◌, subst, lt_of_lt_of_le, mul_assoc, mul_comm, mul-lt-mul_of_pos_right, mul-pos, arith, lit≤, le→leb, lt→ltb, pow_pos, w64, SFits, to_z, of_z}
-use lib.Signed.{mag}
-use mir.ValLaws.{to_z_pos, to_z-of_z}
-use lib.Ieee.{Float, nan, inf, fin, binary64, unlike, up, down, round, div, of_int, of_bits, in_float}
+use Rattle.std.proofs.Common.{◌≡◌, ℕ, suc, ◌-◌, ◌*◌, ◌/◌, ◌^◌, ◌<◌, ◌≤◌, Bool, true, false, cond, ltb, ℤ, pos, negsuc, ◌-ℤ◌, sym, refl, ap, ◌∙◌, lt_of_lt_of_le, mul_assoc, mul_comm, mul-lt-mul_of_pos_right, mul-pos, arith, lit≤, pow_pos, w64, to_z, of_z}
+use Rattle.std.proofs.lemmas.Int.{ints}
+use mir.ValLaws.{to_z-of_z}
+use lib.Ieee.{Float, nan, inf, fin, binary64, unlike, up, down, round, div, of_int, of_bits}
 use lib.Ieee.Fits.{down_pos}
 use lib.Ieee.Exact.{HasValue, round_exact}
 use lib.Ieee.Back.{round_whole}
@@ -82,26 +82,5 @@ unfolding unit
 unit_exact v h = fraction_exact (pos (v / 2 ^ 11) -ℤ pos C) (offset_smaller (v / 2 ^ 11) (omega arith))
 
 -- ---- the same at the machine's signed numbers of 64 bits
-offset_at : (n : ℕ) → n < 2 ^ 53 → SFits w64 (pos n -ℤ pos C)
-offset_at n h = record { sfits = go (ltb n C) }
-  where
-    go : (t : Bool) → mag (cond t (negsuc (C - suc n)) (pos (n - C))) < 2 ^ 63
-    go true = omega arith
-    go false = omega arith
-
-offset_read : (n : ℕ) → n < 2 ^ 53 → to_z w64 n ≡ pos n
-offset_read n h = to_z_pos w64 n (omega arith)
-
-pub offset_fits : (n : ℕ) → n < 2 ^ 53 → SFits w64 (to_z w64 n -ℤ pos C)
-offset_fits n h = subst (λ (z : ℤ). SFits w64 (z -ℤ pos C)) (sym (offset_read n h)) (offset_at n h)
-
 pub offset_back : (n : ℕ) → n < 2 ^ 53 → to_z w64 (of_z w64 (to_z w64 n -ℤ pos C)) ≡ pos n -ℤ pos C
-offset_back n h = ap (λ (z : ℤ). to_z w64 (of_z w64 (z -ℤ pos C))) (offset_read n h) ∙ to_z-of_z w64 (pos n -ℤ pos C) (offset_at n h)
-
-pub offset_in : (n : ℕ) → n < 2 ^ 53 → T (in_float binary64 (pos n -ℤ pos C))
-unfolding in_float
-offset_in n h = go (ltb n C)
-  where
-    go : (t : Bool) → T (in_float binary64 (cond t (negsuc (C - suc n)) (pos (n - C))))
-    go true = lt→ltb (C - suc n) (2 ^ 53) (omega arith)
-    go false = le→leb (n - C) (2 ^ 53) (omega arith)
+offset_back n h = grind (arith, ints, to_z-of_z)

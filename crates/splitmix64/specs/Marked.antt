@@ -19,6 +19,6 @@ published = refl
 
 -- the state wraps, and the draw of that output is -1350363437375201 / 2 ^ 52
 pub drawn : (next_state (2 ^ 64 - 1) ≡ 0x9e37_79b9_7f4a_7c14)
-    × (symmetric_unit (generator 1234567) ≡ record { generator = generator 0x9e37_79b9_7f5d_529c; value = fin true 1350363437375201 (negsuc 51) })
+    × (symmetric_unit (generator 1234567) ≡ (generator 0x9e37_79b9_7f5d_529c, fin true 1350363437375201 (negsuc 51)))
 unfolding mix unit round
 drawn = (refl, refl)

@@ -3,8 +3,6 @@ use Rattle.std.specs.Prelude.{ℕ, suc, ◌+◌, ◌*◌, ◌/◌, ◌%◌, ◌^
 use Rattle.std.specs.Float.{binary64}
 use Rattle.std.specs.Float.Ieee.{round}
 use Rattle.splitmix64.specs.declared.SplitMix64.{SplitMix64}
-use Rattle.splitmix64.specs.declared.Output.{Output}
-use Rattle.splitmix64.specs.declared.Draw.{Draw}
 
 -- the state after s
 abbrev pub next_state : ℕ → ℕ
@@ -31,13 +29,13 @@ fraction (negsuc a) c = round binary64 true (suc a) c
 unfoldable pub unit : ℕ → Float
 unit v = fraction (pos (v / 2 ^ 11) -ℤ pos (2 ^ 52)) (2 ^ 52)
 
--- ---- the generator, by value
+-- ---- the generator: the one that is left, and what is drawn
 
 abbrev pub generator : ℕ → SplitMix64
 generator s = record { state = s }
 
-abbrev pub next_u64 : SplitMix64 → Output
-next_u64 g = let s = next_state g.state in record { generator = generator s; value = mix s }
+abbrev pub next_u64 : SplitMix64 → SplitMix64 × ℕ
+next_u64 g = let s = next_state g.state in (generator s, mix s)
 
-abbrev pub symmetric_unit : SplitMix64 → Draw
-symmetric_unit g = let s = next_state g.state in record { generator = generator s; value = unit (mix s) }
+abbrev pub symmetric_unit : SplitMix64 → SplitMix64 × Float
+symmetric_unit g = let s = next_state g.state in (generator s, unit (mix s))

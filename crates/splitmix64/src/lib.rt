@@ -12,22 +12,10 @@ pub struct SplitMix64 {
     pub state: u64,
 }
 
-#[derive(Clone, Copy)]
-pub struct Output {
-    pub generator: SplitMix64,
-    pub value: u64,
-}
-
-#[derive(Clone, Copy)]
-pub struct Draw {
-    pub generator: SplitMix64,
-    pub value: f64,
-}
-
 // 2^32, by which a number of 64 bits is taken in halves.
 const BASE: u64 = 4294967296;
 
-// a * b, modulo 2^64, by halves of 32 bits.
+// a * b, modulo 2^64, by halves of 32 bits: a form that the project keeps (document 01).
 fn wrapping_mul(a: u64, b: u64) -> u64
     ensures { result ≡ a * b % 2 ^ 64 }
 {
@@ -36,14 +24,15 @@ fn wrapping_mul(a: u64, b: u64) -> u64
     let b0 = b % BASE;
     let b1 = b / BASE;
     let mid = (a1 * b0 % BASE + a0 * b1 % BASE) % BASE;
-    std::num::wrapping_add_u64(a0 * b0, mid * BASE)
+    let low = a0 * b0;
+    low.wrapping_add(mid * BASE)
 }
 
 // The state after this one.
 pub fn next_state(state: u64) -> u64
     ensures { result ≡ Spec.next_state state }
 {
-    std::num::wrapping_add_u64(state, 0x9e37_79b9_7f4a_7c15)
+    state.wrapping_add(0x9e37_79b9_7f4a_7c15)
 }
 
 // The output of a state.
@@ -70,23 +59,19 @@ impl SplitMix64 {
         SplitMix64 { state: seed }
     }
 
-    pub fn next_u64(self) -> Output
+    pub fn next_u64(self) -> (SplitMix64, u64)
         ensures { result ≡ Spec.next_u64 self }
     {
         let state = next_state(self.state);
         let value = mix(state);
-        Output {
-            generator: SplitMix64 { state },
-            value,
-        }
+        (SplitMix64 { state }, value)
     }
 
-    pub fn symmetric_unit(self) -> Draw
+    pub fn symmetric_unit(self) -> (SplitMix64, f64)
         ensures { result ≡ Spec.symmetric_unit self }
     {
-        let next = self.next_u64();
-        let generator = next.generator;
-        let value = unit(next.value);
-        Draw { generator, value }
+        let (next, output) = self.next_u64();
+        let value = unit(output);
+        (next, value)
     }
 }

@@ -2,7 +2,8 @@
 //
 // `sqrt` equals the definition of specs/SquareRoot.antt for every input. That file also states what the standard asks of
 // a root, over whole numbers. specs/OneRoot.antt states that the definition meets it, that nothing else does, and that the
-// root of a positive finite value is finite and above 2^-1022. There is no array (document 02, e): host/rodata tests it.
+// root of a positive finite value is finite and above 2^-1022. There is no array (document 02, e): host/rodata tests it. The parts
+// ask for a significand, from 2^52 up to 2^53, and the parity of an exponent as a number that they compute with.
 #![tactic(auto)]
 
 ghost use Rattle.std.specs.Prelude.{◌≡◌, ◌+◌, ◌*◌, ◌^◌, ◌≤◌, ◌<◌, T, Float};

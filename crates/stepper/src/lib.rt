@@ -6,7 +6,8 @@
 // its directions.
 //
 // Each formula stands once, here, as in specs/Stepper.antt, and the four stages in `advance` and in wide.rt of crate rk4: another
-// method adds its own. proofs/Entrywise.antt and proofs/Moves.antt hold for any method, proofs/FourStages.antt for this one.
+// method adds its own. A width is at most 16, which each function asks: the arrays' length can't name a const parameter where a
+// closure is passed. proofs/Entrywise.antt and proofs/Moves.antt hold for any method, proofs/FourStages.antt for this one.
 #![tactic(auto)]
 
 ghost use Rattle.std.specs.Prelude.{◌≡◌, ℕ, ◌≤◌, ◌<◌, List, [], ◌∷◌, map, take, length, Float};

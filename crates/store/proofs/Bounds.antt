@@ -1,34 +1,19 @@
 -- Counts that are at most a number, and what a tag that is not 0 says of its slot.
-use Prim.Native.Nat.{ℕ, zero, suc, ◌+◌, ◌*◌, ◌≤◌, ◌<◌}
-use native.Mathlib.Numerals.{add-one}
+use Prim.Native.Nat.{ℕ, zero, suc, ◌*◌, ◌≤◌}
 use native.Mathlib.Omega.{arith}
-use mathlib.Core.Path.{◌≡◌, refl, sym, ap, subst, ◌∙◌}
+use mathlib.Core.Path.{◌≡◌, refl, ap, subst}
 use mathlib.Core.Bool.{Bool, true, false, cond, ◌&&◌, false≢true}
 use mathlib.Core.Logic.{◌≢◌}
 use mathlib.Core.List.{List, [], ◌∷◌, ◌++◌}
-use borrow.Author.Tests.{leb-true, le-leb, lt-leb}
+use borrow.Author.Tests.{leb-true, le-leb}
 use lib.Dec.{leb}
-use lib.ListN.{length, take, drop, get_or, replicate, drop_of_length-le}
-use lib.Seq.{drop-cons, drop-nil, take-nil}
+use lib.ListN.{take, drop, get_or, replicate}
+use lib.Seq.{drop-nil, take-nil}
 use lib.Ieee.{Float}
 use lib.Ieee.Scale.{finite}
+use Rattle.std.specs.List.{list_all}
 use Rattle.benettin.specs.Estimate.{limit}
 use Rattle.store.specs.Slots.{at_most, sound, sound_tag}
-
-module _ (n : ℕ) (xs : List ℕ) (i : ℕ) where
-  at_most_from : i < length xs → at_most n (drop i xs) ≡ (leb (get_or xs i 0) n && at_most n (drop (i + 1) xs))
-  unfolding at_most
-  at_most_from h = ap (at_most n) (drop-cons xs i 0 h) ∙ ap (λ (k : ℕ). leb (get_or xs i 0) n && at_most n (drop k xs)) (sym (add-one i))
-
-  pub at_most_above : i < length xs → n < get_or xs i 0 → at_most n (drop i xs) ≡ false
-  at_most_above h g = at_most_from h ∙ rw (lt-leb (get_or xs i 0) n g)
-
-  pub at_most_next : i < length xs → get_or xs i 0 ≤ n → at_most n (drop i xs) ≡ at_most n (drop (i + 1) xs)
-  at_most_next h g = at_most_from h ∙ rw (le-leb (get_or xs i 0) n g)
-
-  pub at_most_end : length xs ≤ i → at_most n (drop i xs) ≡ true
-  unfolding at_most
-  at_most_end h = rw (drop_of_length-le xs {i = i} h)
 
 -- ---- lists of counts that are at most n
 
@@ -37,13 +22,18 @@ both true b h = (refl, h)
 both false b h = absurd (false≢true h)
 
 module _ (n : ℕ) where
-  pub at_most_get : (xs : List ℕ) → at_most n xs ≡ true → (i : ℕ) → get_or xs i 0 ≤ n
+  pub all_at_most : (xs : List ℕ) → list_all (λ x. leb x n) xs ≡ at_most n xs
+  unfolding at_most
+  all_at_most [] = refl
+  all_at_most (x ∷ xs) = ap (λ (b : Bool). leb x n && b) (all_at_most xs)
+
+  at_most_get : (xs : List ℕ) → at_most n xs ≡ true → (i : ℕ) → get_or xs i 0 ≤ n
   unfolding at_most
   at_most_get [] h i = omega arith
   at_most_get (x ∷ xs) h zero = leb-true x n (both (leb x n) (at_most n xs) h).0
   at_most_get (x ∷ xs) h (suc i) = at_most_get xs (both (leb x n) (at_most n xs) h).1 i
 
-  pub get_at_most : (xs : List ℕ) → ((i : ℕ) → get_or xs i 0 ≤ n) → at_most n xs ≡ true
+  get_at_most : (xs : List ℕ) → ((i : ℕ) → get_or xs i 0 ≤ n) → at_most n xs ≡ true
   unfolding at_most
   get_at_most [] h = refl
   get_at_most (x ∷ xs) h = rw (le-leb x n (h 0), get_at_most xs (λ i. h (suc i)))
@@ -60,10 +50,6 @@ front_at_most n (suc k) zero (x ∷ l) h (suc i) = subst (λ (z : List ℕ). get
 front_at_most n (suc k) (suc m) (x ∷ l) h (suc i) = front_at_most n k m l (λ j. h (suc j)) i
 
 -- ---- a tag that is not 0 is sound
-
--- two tests decide as their values do
-pub by_both : (tag : ℕ) {a b p q : Bool} → a ≡ p → b ≡ q → cond (a && b) tag 0 ≡ cond (p && q) tag 0
-by_both tag e f = rw (e, f)
 
 pub record Sound (w s : ℕ) (f : List ℕ) (time : Float) : Type 0 where
   pub windows : w ≤ limit

@@ -1,5 +1,5 @@
 -- A slot is read by its own part of memory: what is laid down in it comes back, and all other slots stay as they were.
-use Prim.Native.Nat.{ℕ, suc, ◌+◌, ◌*◌, ◌≤◌, ◌<◌}
+use Prim.Native.Nat.{ℕ, zero, suc, ◌+◌, ◌-◌, ◌*◌, ◌≤◌, ◌<◌}
 use native.Mathlib.Nat.{mul-le-mul_left}
 use native.Mathlib.Omega.{arith}
 use mathlib.Core.Path.{◌≡◌, refl, sym, ap, ◌∙◌}
@@ -8,7 +8,7 @@ use mathlib.Core.Logic.{◌⊎◌, inl, inr, ◌≢◌}
 use mathlib.Core.List.{List, [], ◌∷◌, ◌++◌}
 use borrow.Author.Tests.{leb-true, leb-false}
 use lib.Dec.{leb}
-use lib.ListN.{length, take, drop, get_or, length-append, length-replicate, length-set, get_or-replicate}
+use lib.ListN.{length, take, drop, get_or, replicate, length-append, length-replicate, length-set, get_or-replicate}
 use lib.Seq.{sets, length-sets, take_at, take-take, get_or-take, get_or-drop, get_or-set_same}
 use lib.Ieee.{Float, nan}
 use Rattle.floats.specs.Vector.{part, chunks, concat}
@@ -24,7 +24,7 @@ use Rattle.store.proofs.Laid.{few_entries}
 use Rattle.store.proofs.Writes.{part_get, part_inside, get_inside, writes, From, back, apart}
 
 -- two slots have no place in common
-slots_apart : (s i j : ℕ) → i ≢ j → (s * i + s ≤ s * j) ⊎ (s * j + s ≤ s * i)
+pub slots_apart : (s i j : ℕ) → i ≢ j → (s * i + s ≤ s * j) ⊎ (s * j + s ≤ s * i)
 slots_apart s i j n = go (leb i j) refl
   where
     up : (a b : ℕ) → a < b → s * a + s ≤ s * b
@@ -89,6 +89,17 @@ pub record Fits (d K w : ℕ) (c : RunState) : Type 0 where
 
 sixteen_length : (f : List ℕ) → length f ≤ 16 → length (sixteen f) ≡ 16
 sixteen_length f h = simp (length-append, length-replicate) (omega arith)
+
+-- no count is above n, and the zeros behind them are not
+pub sixteen_at_most : (n : ℕ) (f : List ℕ) → ((i : ℕ) → get_or f i 0 ≤ n) → (i : ℕ) → get_or (sixteen f) i 0 ≤ n
+sixteen_at_most n f = go f (16 - length f)
+  where
+    go : (f : List ℕ) (k : ℕ) → ((i : ℕ) → get_or f i 0 ≤ n) → (i : ℕ) → get_or (f ++ replicate k 0) i 0 ≤ n
+    go [] zero h i = omega arith
+    go [] (suc k) h zero = omega arith
+    go [] (suc k) h (suc i) = go [] k h i
+    go (x ∷ f) k h zero = h 0
+    go (x ∷ f) k h (suc i) = go f k (λ j. h (suc j)) i
 
 pub saved_sized : (j n : ℕ) (c : RunState) (m : Memory) → Sized m → Sized (saved j n c m)
 unfolding saved laid_floats

@@ -1,37 +1,28 @@
--- The first slot with a tag: the loop over the slots.
-use Prim.Native.Nat.{ℕ, suc, ◌+◌, ◌-◌, ◌≤◌, ◌<◌}
-use native.Mathlib.Nat.{zero-add}
-use native.Mathlib.Numerals.{add-one}
+-- The first slot with a tag.
+use Prim.Native.Nat.{ℕ, zero, suc, ◌+◌, ◌<◌}
 use native.Mathlib.Omega.{arith}
-use mathlib.Core.Path.{◌≡◌, refl, sym, ap, ◌∙◌}
-use mathlib.Core.Option.{Option, none, some, map}
+use mathlib.Core.Path.{◌≡◌, refl}
+use mathlib.Core.Logic.{◌≢◌}
+use mathlib.Core.Option.{none, some}
 use borrow.Author.Tests.{eq-eqb, ne_eqb}
 use Rattle.store.specs.Slots.{Memory, tag_at, tags_from, tags, first_index}
 
--- where no slot before j has the tag t, those from j on decide
-abbrev pub from : ℕ → Memory → ℕ → Option ℕ
-from t m j = map (λ i. j + i) (first_index t (tags_from j (8 - j) m))
-
-shifted : (j : ℕ) (o : Option ℕ) → map (λ i. j + i) (map suc o) ≡ map (λ i. (j + 1) + i) o
-shifted j none = refl
-shifted j (some i) = let z : j + suc i ≡ (j + 1) + i = omega arith in ap some z
-
 module _ (t : ℕ) (m : Memory) where
-  pub from_start : first_index t (tags m) ≡ from t m 0
-  from_start = go (first_index t (tags m))
-    where
-      go : (o : Option ℕ) → o ≡ map (λ i. 0 + i) o
-      go none = refl
-      go (some i) = rw zero-add
-
-  pub from_next : (j : ℕ) → j < 8 → (tag_at j m ≡ t → ⊥) → from t m j ≡ from t m (j + 1)
+  -- among n slots from i on
+  none_from : (n i : ℕ) → ((k : ℕ) → k < i + n → tag_at k m ≢ t) → first_index t (tags_from i n m) ≡ none
   unfolding tags_from first_index
-  from_next j h n = let z : 8 - j ≡ suc (8 - (j + 1)) = omega arith in rw (z, ne_eqb (tag_at j m) t n) (shifted j (first_index t (tags_from (suc j) (8 - (j + 1)) m)) ∙ ap (λ (k : ℕ). map (λ i. (j + 1) + i) (first_index t (tags_from k (8 - (j + 1)) m))) (sym (add-one j)))
+  none_from zero i h = refl
+  none_from (suc n) i h = rw (ne_eqb (tag_at i m) t (h i (omega arith)), none_from n (suc i) (λ k g. h k (omega arith)))
 
-  pub from_here : (j : ℕ) → j < 8 → tag_at j m ≡ t → from t m j ≡ some j
+  first_from : (n i d j : ℕ) → i + d ≡ j → d < n → ((k : ℕ) → k < j → tag_at k m ≢ t) → tag_at j m ≡ t → first_index t (tags_from i n m) ≡ some d
   unfolding tags_from first_index
-  from_here j h e = let z : 8 - j ≡ suc (8 - (j + 1)) = omega arith in let y : j + 0 ≡ j = omega arith in rw (z, eq-eqb (tag_at j m) t e) (ap some y)
+  first_from zero i d j e l h f = absurd (omega arith)
+  first_from (suc n) i zero j e l h f = let z : i ≡ j = omega arith in rw (eq-eqb (tag_at i m) t (rw z f))
+  first_from (suc n) i (suc d) j e l h f = rw (ne_eqb (tag_at i m) t (h i (omega arith)), first_from n (suc i) d j (omega arith) (omega arith) h f)
 
-  pub from_end : (j : ℕ) → 8 ≤ j → from t m j ≡ none
-  unfolding tags_from first_index
-  from_end j h = let z : 8 - j ≡ 0 = omega arith in rw z
+  -- among all
+  pub first_none : ((k : ℕ) → k < 8 → tag_at k m ≢ t) → first_index t (tags m) ≡ none
+  first_none = none_from 8 0
+
+  pub first_some : (j : ℕ) → j < 8 → ((k : ℕ) → k < j → tag_at k m ≢ t) → tag_at j m ≡ t → first_index t (tags m) ≡ some j
+  first_some j l = first_from 8 0 j j (omega arith) l

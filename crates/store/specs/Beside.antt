@@ -6,21 +6,19 @@ use Rattle.totals.specs.Progress.{held}
 use Rattle.totals.specs.Ending.{Bounded}
 use Rattle.totals.specs.declared.Progress.{Progress}
 use Rattle.store.specs.Slots.{Memory, memory, tag_at}
-use Rattle.store.specs.Promises.{Sized, Loaded}
+use Rattle.store.specs.Promises.{Loaded}
 
 -- a run of d entries and k directions has room in a slot
-pub record Fits (j d k : ℕ) (m : Memory) : Type 0 where
-  pub memory : Sized m
+pub record Fits (j d k : ℕ) : Type 0 where
   pub slot : j < 8
   pub entries : d ≤ 16
   pub few : k ≤ 16
 
 -- ---- a run is laid down in slot j
 
-pub record SavesBeside (j d k : ℕ) (m : Memory) (x ns : List Float) (p : Progress) : Type 0 where
-  pub fits : Fits j d k m
+pub record SavesBeside (j d k : ℕ) (x : List Float) (p : Progress) : Type 0 where
+  pub fits : Fits j d k
   pub state : length x ≡ d
-  pub norms : length ns ≡ 32
   -- whatever the bounds are
   pub made : ℕ
   pub measured : ℕ
@@ -37,10 +35,9 @@ saved_beside j number x k ns p m =
 
 -- ---- the run in slot j, which is in use, is taken up
 
-pub record LoadsBeside (j d k : ℕ) (m : Memory) (ns : List Float) : Type 0 where
-  pub fits : Fits j d k m
+pub record LoadsBeside (j d k : ℕ) (m : Memory) : Type 0 where
+  pub fits : Fits j d k
   pub used : tag_at j m ≢ 0
-  pub norms : length ns ≡ 32
 
 -- with the directions that stand in memory
 abbrev pub LoadedBeside : ℕ → ℕ → ℕ → Memory → List Float → List Float → Progress → Type 0

@@ -1,6 +1,5 @@
 -- What the contracts of the functions over slots say, by name. A reader may skip it. Definitions only.
 use Rattle.std.specs.Prelude.{ℕ, ◌+◌, ◌*◌, ◌≤◌, ◌<◌, ◌≡◌, ◌≢◌, List, length, Float}
-use Rattle.error.specs.declared.Outcome.TheVariants.{Accepted}
 use Rattle.benettin.specs.Estimate.{limit}
 use Rattle.totals.specs.Progress.{Held, run_state}
 use Rattle.totals.specs.Ending.{Bounded}
@@ -16,27 +15,22 @@ pub record Held_in (d k : ℕ) (H : Held) : Type 0 where
   pub few : k ≤ 16
   pub state : length H.state ≡ d
   pub tangents : length H.tangents ≡ k * d
-  pub norms : length H.norms ≡ 32
 
 -- a run is laid down in slot j
-pub record Saves (j d k : ℕ) (m : Memory) (H : Held) : Type 0 where
-  pub memory : Sized m
+pub record Saves (j d k : ℕ) (H : Held) : Type 0 where
   pub slot : j < 8
   pub held : Held_in d k H
   pub bounded : Bounded k (limit + limit) limit H.progress
 
 -- the run in slot j, which is in use, is taken up
-pub record Loads (j d k : ℕ) (m : Memory) (x t ns : List Float) : Type 0 where
-  pub memory : Sized m
+pub record Loads (j d k : ℕ) (m : Memory) (x t : List Float) : Type 0 where
   pub slot : j < 8
   pub used : tag_at j m ≢ 0
   pub entries : d ≤ 16
   pub few : k ≤ 16
   pub state : length x ≡ d
   pub tangents : length t ≡ k * d
-  pub norms : length ns ≡ 32
 
 pub record Loaded (j d k : ℕ) (m : Memory) (H : Held) : Type 0 where
   pub run : run_state d k H ≡ stood_at j d k m
-  pub accepted : H.progress.outcome ≡ Accepted
   pub bounded : Bounded k (limit + limit) limit H.progress

@@ -14,7 +14,8 @@ use Rattle.floats.specs.Finite.{first_not_finite}
 use Rattle.floats.specs.Vector.{concat}
 use Rattle.gram_schmidt.specs.Orthonormalise.{Basis, orthonormalise}
 use Rattle.benettin.specs.Run.{Dynamics, Problem, RunState, RunRefusal, Status, ok, refused, refused_at, tested, stepped, step, with_basis, unless_collapsed, reorthonormalise, check_duration, count_faint, accumulate, Row, row, Course}
-use Rattle.benettin.specs.Run.{start_of, course_of, answer, OutputLengths, run_past, run_tests, run}
+use Rattle.benettin.specs.Run.{start_of, course_of, answer, run_past, run_tests, run}
+use Rattle.benettin.specs.declared.OutputLengths.{OutputLengths}
 use Rattle.benettin.specs.Estimate.{dynamics, problem, estimate}
 use Rattle.benettin.proofs.Simulation.{Relation, RefusedIn, Related, Similar, Invariant, SimilarCourses, similar_course}
 use Rattle.benettin.proofs.LeadingSpectrum.{duration_sim}

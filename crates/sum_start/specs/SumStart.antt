@@ -5,7 +5,8 @@ use Rattle.std.specs.Float.Ieee.{neg, of_int, round}
 use Rattle.floats.specs.Arithmetic.{whole, minus, zero⁺, zero⁻}
 use Rattle.gram_schmidt.specs.Orthonormalise.{Lengths, Basis, orthonormalise}
 use Rattle.gram_schmidt.specs.GramSchmidt.{euclidean_from, euclidean}
-use Rattle.benettin.specs.Run.{Dynamics, Problem, OutputLengths, run}
+use Rattle.benettin.specs.Run.{Dynamics, Problem, run}
+use Rattle.benettin.specs.declared.OutputLengths.{OutputLengths}
 use Rattle.benettin.specs.Estimate.{Input, problem, estimate}
 
 -- a float without the sign of its zero

@@ -2,7 +2,8 @@
 //
 // A state or direction has 2 or 3 entries, at the front of an array of 16, and so has what is returned, with zeros behind
 // (specs/Array.antt). No function here lends on a whole array, so that the caller's stay in registers. Another such system
-// adds its two formulas and an arm to `fixed_field` and `fixed_tangent`.
+// adds its two formulas and an arm to `fixed_field` and `fixed_tangent`, which ask for a `Fixed` system: a type of those three
+// alone would be a second enum of systems.
 ghost use Rattle.std.specs.Prelude.{◌≡◌, List, [], Float};
 ghost use Rattle.system.specs.System.{field, tangent};
 ghost use Rattle.system.specs.Array.{in16};

@@ -16,7 +16,8 @@ ghost use Rattle.system.specs.System.{dim, field, tangent};
 ghost use Rattle.system.specs.System as Spec;
 ghost use Rattle.system.specs.Evaluation.{Columns};
 
-// Each choice holds its own parameters. The matrix of a linear system is lent beside it.
+// Each choice holds its own parameters. The matrix of a linear system is lent beside it. This is the project's form of a system
+// (document 01), so functions choose by `match`; a field and its tangent map stay two functions, of different formulas.
 #[derive(Clone, Copy)]
 pub enum System {
     Lorenz { sigma: f64, rho: f64, beta: f64 },
@@ -84,7 +85,6 @@ pub fn cells_fit(system: System) -> bool
 // entries; the others do not read it. The result is lent and not returned: the caller's arrays are in memory, and a copy of
 // 16 floats costs as much as a small field.
 pub fn vector_field(system: System, columns: &[f64], x: &[f64; 16], out: &mut [f64; 16])
-    requires { (length x.now ≡ 16) × (length out.old ≡ 16) }
     ensures { (length out.new ≡ 16)
         × ((m : List Float) → Columns system m columns.now → take (dim system) out.new ≡ field system m (take (dim system) x.now)) }
 {
@@ -106,7 +106,6 @@ pub fn jacobian_vector_product(
     t: &[f64; 16],
     out: &mut [f64; 16],
 )
-    requires { (length t.now ≡ 16) × (length out.old ≡ 16) }
     ensures { (length out.new ≡ 16)
         × ((m : List Float) → Columns system m columns.now → take (dim system) out.new ≡ tangent system m (take (dim system) x.now) (take (dim system) t.now)) }
 {

@@ -14,13 +14,13 @@ system kind p₀ p₁ p₂ d =
     (cond (eqb kind 3) (Linear d)
     (cond (eqb kind 4) (Lorenz96 d p₀) (Linear 0)))))
 
-abbrev numbered : ℕ → Float → Float → Float → Numbered
-numbered kind p₀ p₁ p₂ = record { kind = kind; p0 = p₀; p1 = p₁; p2 = p₂ }
+abbrev numbered : ℕ → Float → Float → Float → ℕ → Numbered
+numbered kind p₀ p₁ p₂ d = record { kind = kind; p0 = p₀; p1 = p₁; p2 = p₂; dimension = d }
 
--- the kind and the parameters of a system, beside its dimension: those that name it
+-- the kind, the parameters and the dimension of a system: those that name it
 abbrev pub numbers : System → Numbered
-numbers (Lorenz σ ρ β) = numbered 0 σ ρ β
-numbers (Rossler a b c) = numbered 1 a b c
-numbers (VanDerPol μ) = numbered 2 μ zero⁺ zero⁺
-numbers (Linear d) = numbered 3 zero⁺ zero⁺ zero⁺
-numbers (Lorenz96 n F) = numbered 4 F zero⁺ zero⁺
+numbers (Lorenz σ ρ β) = numbered 0 σ ρ β 3
+numbers (Rossler a b c) = numbered 1 a b c 3
+numbers (VanDerPol μ) = numbered 2 μ zero⁺ zero⁺ 2
+numbers (Linear d) = numbered 3 zero⁺ zero⁺ zero⁺ d
+numbers (Lorenz96 n F) = numbered 4 F zero⁺ zero⁺ n

@@ -1,12 +1,12 @@
 -- What bounds a run under way, and what its end asks and tells. A reader may skip it. Definitions only.
-use Rattle.std.specs.Prelude.{ℕ, ◌*◌, ◌≤◌, ◌≡◌, true, List, length, drop, get_or, replicate, Float}
+use Rattle.std.specs.Prelude.{ℕ, ◌*◌, ◌≤◌, ◌≡◌, true, List, length, drop, get_or, replicate, Float, Ok}
 use Rattle.std.proofs.lemmas.List.Edits.{sets}
 use Rattle.std.specs.Float.Ieee.Scale.{finite}
-use Rattle.benettin.specs.Run.{Dynamics, Row, answer}
+use Rattle.benettin.specs.Run.{Dynamics, Row, ok, answer}
 use Rattle.benettin.specs.Estimate.{limit}
 use Rattle.benettin.specs.Outputs.{flat_rows, observed, outputs_from}
 use Rattle.benettin.specs.declared.SpectrumEstimate.{SpectrumEstimate}
-use Rattle.totals.specs.Progress.{held, status}
+use Rattle.totals.specs.Progress.{held, run_state}
 use Rattle.totals.specs.declared.Progress.{Progress}
 
 -- After at most so many windows, and so many measured ones of them: arrays of 16, counts of 0 behind direction k, a finite time, and bounds.
@@ -38,4 +38,4 @@ pub record Ends (k n w : ℕ) (x es fs : List Float) (p : Progress) : Type 0 whe
 abbrev pub Ended : ℕ → Float → ℕ → List Float → Progress → List Float → List Float → SpectrumEstimate → List Float → List Float → Type 0
 Ended k D w x p exponents final r exponents' final' =
     (M : Dynamics) (d : ℕ) (t norms rows : List Float) (a : ℕ) (rs : List Row) → M.duration ≡ D
-    → observed r (sets rows a (flat_rows rs)) exponents' final' ≡ outputs_from a w rows exponents final (answer M w k rs (status d k (held x t norms p)))
+    → observed (Ok r) (sets rows a (flat_rows rs)) exponents' final' ≡ outputs_from a w rows exponents final (answer M w k rs (ok (run_state d k (held x t norms p))))

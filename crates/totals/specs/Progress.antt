@@ -1,16 +1,12 @@
 -- A run under way as the code holds it, and the state of the definition that it stands for. A reader may skip it. Definitions only.
-use Rattle.std.specs.Prelude.{ℕ, ◌+◌, List, take, drop, replicate, Float}
-use Rattle.std.proofs.Math.Option.{Option, none, some}
-use Rattle.error.specs.Refusal.{reported}
+use Rattle.std.specs.Prelude.{ℕ, ◌+◌, List, take, drop, replicate, Float, Result, Ok, Err}
+use Rattle.error.specs.Refusal.{refusal}
 use Rattle.error.specs.declared.LyapunovError.{LyapunovError}
-use Rattle.error.specs.declared.Outcome.{Outcome}
-use Rattle.error.specs.declared.Outcome.TheVariants.{Refused}
-use Rattle.error.specs.declared.Refusal.{Refusal}
 use Rattle.floats.specs.Arithmetic.{zero⁺}
 use Rattle.floats.specs.Vector.{chunks}
 use Rattle.gram_schmidt.specs.GramSchmidt.{euclidean}
-use Rattle.benettin.specs.Run.{Motion, Norms, Totals, RunState, Status, ok, refused, refused_at, faint_or_not}
-use Rattle.benettin.specs.declared.SpectrumEstimate.{SpectrumEstimate}
+use Rattle.benettin.specs.Run.{Motion, Norms, Totals, RunState, Status, ok, refused, faint_or_not}
+use Rattle.benettin.specs.declared.RefusedRun.{RefusedRun}
 use Rattle.totals.specs.declared.Progress.{Progress}
 
 -- ---- what is held
@@ -42,35 +38,40 @@ joined m n t = record { motion = m; norms = n; totals = t }
 abbrev pub run_state : ℕ → ℕ → Held → RunState
 run_state d k H = let p = H.progress in joined (motion d k H.state H.tangents p.time p.steps) (norms_of k H.norms) (totals k p)
 
--- how a run goes on by what is refused
-abbrev pub status_of : Option Refusal → RunState → Status
-status_of none c = ok c
-status_of (some r) c = refused (refused_at r.number r.place c)
+-- how a run goes on that is refused so
+abbrev pub refused_as : RefusedRun → Status
+refused_as r = let e = refusal r.error in refused (record { number = e.number; place = e.place; finished = r.windows; steps = r.steps })
 
-abbrev pub status : ℕ → ℕ → Held → Status
-status d k H = status_of (reported H.progress.outcome) (run_state d k H)
+-- how a run goes on, by what the code answers of its progress
+abbrev pub status : ℕ → ℕ → List Float → List Float → List Float → Result Progress RefusedRun → Status
+status d k x t norms (Ok p) = ok (run_state d k (held x t norms p))
+status d k x t norms (Err r) = refused_as r
+
+-- the same where the code leaves its progress in place: p, unless the run is refused
+abbrev pub carried : Progress → Result Unit RefusedRun → Result Progress RefusedRun
+carried p (Ok u) = Ok p
+carried p (Err r) = Err r
 
 -- ---- what is done to it
 
 -- nothing done yet
-abbrev pub fresh : Outcome → Float → Progress
-fresh outcome time = record { outcome = outcome; windows = 0; steps = 0; time = time; faint = replicate 16 0; sums = replicate 16 zero⁺ }
+abbrev pub fresh : Float → Progress
+fresh time = record { windows = 0; steps = 0; time = time; faint = replicate 16 0; sums = replicate 16 zero⁺ }
 
--- p after so many steps more, by an outcome, at another time
-abbrev pub after_steps : Progress → Outcome → Float → ℕ → Progress
-after_steps p v time made = record { outcome = v; windows = p.windows; steps = p.steps + made; time = time; faint = p.faint; sums = p.sums }
+-- p after so many steps more, at another time
+abbrev pub after_steps : Progress → Float → ℕ → Progress
+after_steps p time made = record p { steps = p.steps + made; time = time }
 
 abbrev pub with_faint : Progress → List ℕ → Progress
-with_faint p f = record { outcome = p.outcome; windows = p.windows; steps = p.steps; time = p.time; faint = f; sums = p.sums }
+with_faint p f = record p { faint = f }
 
 -- p with one measured window more
 abbrev pub with_sums : Progress → List Float → Progress
-with_sums p s = record { outcome = p.outcome; windows = p.windows + 1; steps = p.steps; time = p.time; faint = p.faint; sums = s }
+with_sums p s = record p { windows = p.windows + 1; sums = s }
 
 -- a count, with one more if the squared length is faint
 abbrev pub counted : ℕ → Float → ℕ
 counted = faint_or_not euclidean
 
-abbrev pub refused_estimate : LyapunovError → ℕ → ℕ → SpectrumEstimate
-refused_estimate e finished steps =
-    record { outcome = Refused e; windows = finished; steps = steps; final_time = zero⁺; measured_time = zero⁺; faint = replicate 16 0 }
+abbrev pub refused_run : LyapunovError → ℕ → ℕ → RefusedRun
+refused_run e finished steps = record { error = e; windows = finished; steps = steps }

@@ -13,7 +13,7 @@ use Rattle.error.specs.declared.Refusal.{Refusal}
 use Rattle.benettin.specs.Estimate.{Input}
 use Rattle.turns.specs.Turn.{HandedIn, taken, turned_down, handed_in, Slices, turn_tests, Turned, under_way, over, turn}
 use Rattle.turns.specs.Dispatcher.{Call, hand_in, take_turn, Entry, entry, names, member, least_free, Served, admitted, received, moved, given, serve, exchanges, queue_after}
-use Rattle.turns.specs.Queue.{unfinished, spent_by, spent, Fair}
+use Rattle.turns.specs.Queue.{spent_by, spent, Fair}
 use Rattle.turns.proofs.Queues.{queue_kept, empty_queue}
 use Rattle.turns.proofs.Traces.{drop_exchanges}
 use Rattle.turns.proofs.Unfinished.{unfinished_is}

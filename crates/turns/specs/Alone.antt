@@ -9,7 +9,7 @@ use Rattle.benettin.specs.Run.{output_tests, stopped, no_faint}
 use Rattle.benettin.specs.Estimate.{Input}
 use Rattle.benettin.specs.Outputs as Outputs
 use Rattle.benettin.specs.Outputs.{Estimated, outputs, lengths_of, Meets}
-use Rattle.benettin.specs.LeadingSpectrum.{leading, RefusedFrom, number}
+use Rattle.benettin.specs.LeadingSpectrum.{leading, RefusedFrom}
 use Rattle.benettin.specs.LeadingOutputs.{read}
 use Rattle.turns.specs.Turn.{Slices}
 use Rattle.turns.specs.Dispatcher.{Call, hand_in, take_turn, Reply, named, rejected, nobody, unfit, advanced, finished, Exchange}

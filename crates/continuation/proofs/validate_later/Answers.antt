@@ -1,10 +1,10 @@
 -- continuation::validate_later
 use Prim.Native.Nat.{ℕ}
 use mathlib.Core.Path.{◌≡◌, ap, ◌∙◌}
-use borrow.Author.Rules.{rules}
 use lib.Dec.{leb}
 use Rattle.error.specs.Tests.{first_failing}
-use Rattle.benettin.specs.Run.{OutputLengths, input_tests, run_tests}
+use Rattle.benettin.specs.Run.{input_tests, run_tests}
+use Rattle.benettin.specs.declared.OutputLengths.{OutputLengths}
 use Rattle.benettin.specs.Estimate.{Input, limit, problem_within}
 use Rattle.continuation.proofs.validate_later.Goals as goal
 

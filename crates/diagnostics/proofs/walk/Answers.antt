@@ -1,12 +1,11 @@
 -- diagnostics::walk
-use borrow.Author.Rules.{rules}
 use native.Mathlib.Omega.{arith}
 use mathlib.Core.Path.{◌≡◌, sym, ap, ◌∙◌}
 use mathlib.Core.Bool.{true}
-use Prim.Native.Nat.{ℕ, ◌^◌, ◌-◌, ◌≤◌, ◌<◌}
+use Prim.Native.Nat.{ℕ, ◌^◌, ◌≤◌, ◌<◌}
 use lib.IntN.{pos}
 use lib.Dec.{T, le→leb}
-use lib.ListN.{length, drop, get_or}
+use lib.ListN.{length, get_or}
 use lib.Ieee.{Float, nan, in_float, of_int, binary64, lt}
 use Rattle.floats.specs.Arithmetic.{◌⊕◌, ◌⊘◌, zero⁺}
 use Rattle.floats.proofs.Zero.{zero_is}
@@ -46,25 +45,10 @@ stops c h =
     ∙ walk_stop sorted c.loop-i.i c.loop-i.cumulative (omega (arith, e.0, h)) (e.1 h)
     ∙ ap (λ (n : ℕ). stopped n c.loop-i.cumulative (get_or sorted n nan)) (sym e.0)
 
-pub loop-i-init : goal.loop-i-init
-loop-i-init c = (search rules, ap (λ (z : Float). walk 0 z c.args.sorted.now) (sym zero_is))
-
-pub bounds-sorted-i : goal.bounds-sorted-i
-bounds-sorted-i c = omega arith
-
-pub overflow_add-i : goal.overflow_add-i
-overflow_add-i c = omega arith
-
-pub loop-i-smaller : goal.loop-i-smaller
-loop-i-smaller c = omega arith
-
 pub loop-i-preserved : goal.loop-i-preserved
 loop-i-preserved c =
     let sorted = c.args.sorted.now in
     (omega arith, c.loop-i.invariant.1 ∙ walk_on sorted c.loop-i.i c.loop-i.cumulative c.if-i-sorted.false (ap (lt (c.loop-i.cumulative ⊕ get_or sorted c.loop-i.i nan)) (sym zero_is) ∙ c.if-next.false))
-
-pub int_to_float-result : goal.int_to_float-result
-int_to_float-result c = float_holds c.if-i-sorted.index (index_small (goal.at.int_to_float-result c).Joined-i-sorted)
 
 pub returns-then-index-sorted : goal.returns-then-index-sorted
 returns-then-index-sorted c =
@@ -74,12 +58,6 @@ returns-then-index-sorted c =
 
 pub returns-then-index-eq0 : goal.returns-then-index-eq0
 returns-then-index-eq0 c = zero_is ∙ sym (stops (goal.at.returns-then-index-eq0 c).Joined-i-sorted c.if-index-sorted.false ∙ stopped_first _ _ _ c.if-index-eq0.true)
-
-pub bounds-sorted-index : goal.bounds-sorted-index
-bounds-sorted-index c = omega arith
-
-pub int_to_float-result-2 : goal.int_to_float-result-2
-int_to_float-result-2 c = float_holds c.if-i-sorted.index (index_small (goal.at.int_to_float-result-2 c).Joined-i-sorted)
 
 pub returns : goal.returns
 returns c =

@@ -1,37 +1,24 @@
 -- dispatch::admit
-use borrow.Author.Rules.{rules}
-use mathlib.Core.Path.{◌≡◌, sym, ap, ◌∙◌}
-use mathlib.Core.List.{[]}
-use Rattle.error.specs.Refusal.{reported}
-use Rattle.error.specs.Tests.{first_failing}
-use Rattle.error.proofs.Tests.{chained}
-use Rattle.benettin.specs.Estimate.{input}
-use Rattle.turns.specs.Turn.{hand_in_tests, HandedIn}
+use Rattle.std.proofs.Common.{sym, [], ◌∙◌}
+use Rattle.error.proofs.Tests.{handed_on, first_append, else_stop, behind}
 use Rattle.store.specs.Slots as Slots
 use Rattle.schedule.specs.Schedule.{memory}
-use Rattle.dispatching.specs.Served.{admitted_in}
-use Rattle.dispatch.proofs.HandedIn.{handed_refused, handed_passed}
+use Rattle.dispatch.proofs.HandedIn.{refused_in, past_tests}
 use Rattle.dispatch.proofs.admit.Goals as goal
-use Rattle.dispatch.proofs.admit.Goals.{After-first_refusal}
 
--- what the tests answer
-tested : (c : After-first_refusal) → (let a = c.args in reported c.first_refusal.result ≡ first_failing (hand_in_tests (input a.system [] a.time a.state.now a.config) a.config.top_k))
-tested c = chained _ _ c.first_refusal.ensures (c.validate_set_up-set_up.ensures [] c.args.state.now) c.validate_start-start.ensures
-
-pub returns-in-Refused : goal.returns-in-Refused
-returns-in-Refused c =
+pub returns-in_err-validate_set_up : goal.returns-in_err-validate_set_up
+returns-in_err-validate_set_up c =
     let a = c.args in
-    let t = tested (goal.at.returns-in-Refused c).After-first_refusal in
-    ap (λ (h : HandedIn). admitted_in h (memory (Slots.memory a.floats.now a.counts.now) a.settings.now a.queue.now))
-    (sym (handed_refused (input a.system [] a.time a.state.now a.config) a.config.top_k _ (sym (ap reported c.in-Refused.is) ∙ t)))
+    rw (handed_on c.from_residual.result c.from_residual.ensures.1) (refused_in _ _ (memory (Slots.memory a.floats.now a.counts.now) a.settings.now a.queue.now) (else_stop _ _ _ (c.in_err-validate_set_up.ensures [] a.state.now) ∙ sym (first_append _ _)))
+
+pub returns-in_err-validate_start : goal.returns-in_err-validate_start
+returns-in_err-validate_start c =
+    let r = c.from_residual-in_err-validate_start in
+    let a = c.args in
+    rw (handed_on r.result r.ensures.1) (refused_in _ _ (memory (Slots.memory a.floats.now a.counts.now) a.settings.now a.queue.now) (behind _ _ (c.in_ok-validate_set_up.ensures [] a.state.now) c.in_err-validate_start.ensures))
 
 pub take_in-requires : goal.take_in-requires
-take_in-requires c = record { memory = c.requires.0; room = c.requires.1; passed = sym (ap reported c.in_default.is) ∙ tested (goal.at.take_in-requires c).After-first_refusal }
+take_in-requires c = record { room = c.requires; passed = behind _ _ (c.in_ok-validate_set_up.ensures [] c.args.state.now) c.in_ok-validate_start.ensures }
 
 pub returns : goal.returns
-returns c =
-    let a = c.args in
-    let t = tested (goal.at.returns c).After-first_refusal in
-    c.take_in.ensures
-    ∙ ap (λ (h : HandedIn). admitted_in h (memory (Slots.memory a.floats.now a.counts.now) a.settings.now a.queue.now))
-    (sym (handed_passed (input a.system [] a.time a.state.now a.config) a.config.top_k (sym (ap reported c.in_default.is) ∙ t)))
+returns c = c.take_in.ensures ∙ past_tests _ _ _ (behind _ _ (c.in_ok-validate_set_up.ensures [] c.args.state.now) c.in_ok-validate_start.ensures)

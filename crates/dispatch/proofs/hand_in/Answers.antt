@@ -1,5 +1,4 @@
 -- dispatch::hand_in
-use borrow.Author.Rules.{rules}
 use borrow.Author.Tests.{lt-leb, le-leb}
 use Rattle.dispatching.specs.Served.{serve_in}
 use Rattle.dispatch.proofs.hand_in.Goals as goal

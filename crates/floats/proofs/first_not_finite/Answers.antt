@@ -1,29 +1,18 @@
 -- floats::first_not_finite
+use mathlib.Core.Path.{ap, ◌∙◌}
+use mathlib.Core.Bool.{not}
+use lib.Ieee.Scale.{finite}
 use borrow.Author.Rules.{rules}
-use native.Mathlib.Omega.{arith}
-use Prim.Native.Nat.{◌-◌, ◌≤◌}
-use mathlib.Core.Path.{◌≡◌, sym, ◌∙◌}
-use lib.ListN.{length}
-use Rattle.floats.specs.Finite.{first_not_finite}
-use Rattle.floats.proofs.Finite.{from, from_start, from_next, from_here, from_end}
+use borrow.Author.Tests.{tests}
+use Rattle.std.proofs.lemmas.Iterator.{YieldsList-from_slice}
+use Rattle.std.proofs.lemmas.Iterator.Search.{position_from_yields_List}
+use Rattle.std.proofs.lemmas.Iterator.Adapters.{position_from-zero}
+use Rattle.floats.specs.Finite.{index}
+use Rattle.floats.proofs.Finite.{position_is}
 use Rattle.floats.proofs.first_not_finite.Goals as goal
-
-pub loop-i-init : goal.loop-i-init
-loop-i-init c = (omega arith, from_start c.args.xs.now)
-
-pub loop-i-preserved : goal.loop-i-preserved
-loop-i-preserved c =
-    let l = c.loop-i in
-    let xs = c.args.xs.now in
-    (omega arith, l.invariant.1 ∙ from_next xs l.i c.loop-i-test.true (sym c.is_finite.ensures ∙ c.if-is_finite.true))
-
-pub returns-else-is_finite : goal.returns-else-is_finite
-returns-else-is_finite c =
-    let l = c.loop-i in
-    let xs = c.args.xs.now in
-    sym (l.invariant.1 ∙ from_here xs l.i c.loop-i-test.true (sym c.is_finite.ensures ∙ c.if-is_finite.false))
 
 pub returns : goal.returns
 returns c =
-    let l = c.loop-i in
-    sym (l.invariant.1 ∙ from_end c.args.xs.now l.i c.loop-i-test.false)
+    let xs = c.args.xs.now in
+    let p = position_from_yields_List (λ x. not (finite x)) _ _ c.position.result c.position.ensures.ran (YieldsList-from_slice xs cc) (λ x b q k. search (rules, tests)) in
+    ap index (p ∙ position_from-zero (λ x. not (finite x)) xs) ∙ position_is xs

@@ -1,6 +1,5 @@
 -- floats::to_bits
-use borrow.Author.Rules.{rules}
-use Rattle.floats.proofs.Magnitude.{nan_bits}
+use Rattle.floats.proofs.Rank.{nan_bits}
 use Rattle.floats.proofs.Ordinary.{equal_no_nan}
 use Rattle.floats.proofs.to_bits.Goals as goal
 

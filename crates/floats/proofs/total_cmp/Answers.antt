@@ -1,6 +1,5 @@
 -- floats::total_cmp
-use borrow.Author.Rules.{rules}
-use Rattle.floats.proofs.Magnitude.{rank_clear, rank_set}
+use Rattle.floats.proofs.Rank.{rank_clear, rank_set}
 use Rattle.floats.proofs.total_cmp.Goals as goal
 
 pub returns-then-b-lt-SIGN_BIT : goal.returns-then-b-lt-SIGN_BIT

@@ -4,7 +4,6 @@ use lib.Ieee.{nan_bits, of_bits}
 use Rattle.sqrt.specs.SquareRoot.{root}
 use Rattle.gram_schmidt.specs.GramSchmidt.{euclidean}
 use Rattle.gram_schmidt.proofs.Collapse.{low, high, held, normal_held, norm_collapsed, norm_divided, log_value, log_never}
-use borrow.Author.Rules.{rules}
 use Rattle.gram_schmidt.proofs.normalise.Goals as goal
 
 pub float_from_bits-t-5 : goal.float_from_bits-t-5
@@ -29,7 +28,7 @@ pub returns-then-norm-2 : goal.returns-then-norm-2
 unfolding of_bits
 returns-then-norm-2 c =
     norm_divided euclidean _ _ (c.sqrt-norm.ensures ∙ ap root c.requires) _ _ _ (held _ c.if-norm.false c.if-norm-2.true) c.requires
-    (log_value _ _ _ (normal_held _ c.if-norm.false c.if-norm-2.true) c.ln.ensures c.in-Value.is) c.divide.ensures
+    (log_value _ _ _ (normal_held _ c.if-norm.false c.if-norm-2.true) c.ln.ensures c.in-Ok.is) c.divide.ensures
 
 pub returns : goal.returns
 unfolding of_bits

@@ -3,7 +3,6 @@ use native.Mathlib.Nat.{add-sub_cancel_left}
 use mathlib.Core.Path.{sym, ap, ◌∙◌}
 use Rattle.gram_schmidt.specs.GramSchmidt.{squared_length, euclidean}
 use Rattle.gram_schmidt.proofs.Directions.{cleared_part, direction}
-use borrow.Author.Rules.{rules}
 use Rattle.gram_schmidt.proofs.orthonormalise_at.Goals as goal
 
 pub normalise-requires : goal.normalise-requires

@@ -3,14 +3,12 @@ use mathlib.Core.Path.{sym, ap, ◌∙◌, subst}
 use Prim.Native.Nat.{◌+◌, ◌*◌, ◌/◌, ◌%◌, ◌^◌, ◌<◌}
 use native.Mathlib.Omega.{arith}
 use lib.Dec.{T}
-use lib.IntN.{ℤ, pos, ◌-ℤ◌}
+use lib.IntN.{ℤ}
 use lib.Ieee.{binary64, fits, to_bits, of_int}
-use mir.Syntax.{w32}
-use mir.Val.{SFits}
-use Rattle.floats.proofs.Ordinary.{ordinary_no_nan, ordinary_pattern}
+use Rattle.floats.proofs.Ordinary.{ordinary_pattern}
 use Rattle.ln.specs.Logarithm.{log, series, significand}
 use Rattle.floats.proofs.Pattern.{no_nan_under}
-use Rattle.ln.proofs.Normal.{normal_ordinary, exponent_fits, exponent_read, exponent_back}
+use Rattle.ln.proofs.Normal.{normal_ordinary, exponent_back}
 use borrow.Author.Rules.{rules}
 use Rattle.ln.proofs.normal_ln.Goals as goal
 use Rattle.ln.proofs.normal_ln.Goals.{Start}
@@ -24,9 +22,6 @@ pattern_lt c = (ordinary_pattern (held c) (normal_ordinary c.args.z c.requires))
 field_lt : (c : Start) → (to_bits binary64 c.args.z + 0x95f62 * 2 ^ 32) / 2 ^ 52 < 2048
 field_lt c = let h = pattern_lt c in omega arith
 
-pub float_to_bits-b : goal.float_to_bits-b
-float_to_bits-b c = ordinary_no_nan (normal_ordinary c.args.z c.requires)
-
 pub overflow_add-b : goal.overflow_add-b
 overflow_add-b c = let h = pattern_lt (goal.at.overflow_add-b c).Start in omega arith
 
@@ -34,10 +29,10 @@ pub float_from_bits-m : goal.float_from_bits-m
 float_from_bits-m c = no_nan_under ((to_bits binary64 c.args.z + 0x95f62 * 2 ^ 32) % 2 ^ 52 + 0x3fe6a09e * 2 ^ 32) (omega arith)
 
 pub overflow_cast-k : goal.overflow_cast-k
-overflow_cast-k c = let h = field_lt (goal.at.overflow_cast-k c).Start in record { sfits = omega arith }
+overflow_cast-k c = let h = field_lt (goal.at.overflow_cast-k c).Start in search rules
 
 pub overflow_sub-k : goal.overflow_sub-k
-overflow_sub-k c = let n = (to_bits binary64 c.args.z + 0x95f62 * 2 ^ 32) / 2 ^ 52 in subst (λ (z : ℤ). SFits w32 (z -ℤ pos 1023)) (sym (exponent_read n (field_lt (goal.at.overflow_sub-k c).Start))) (exponent_fits n (field_lt (goal.at.overflow_sub-k c).Start))
+overflow_sub-k c = let h = field_lt (goal.at.overflow_sub-k c).Start in search rules
 
 pub returns : goal.returns
 unfolding log

@@ -1,16 +1,9 @@
 -- report::decode
-use borrow.Author.Rules.{rules}
-use native.Mathlib.Nat.{sub-zero}
-use native.Mathlib.Omega.{arith}
-use mathlib.Core.Path.{◌≡◌, refl, sym, ap, ◌∙◌}
-use Prim.Native.Nat.{ℕ, ◌-◌, ◌≤◌}
-use lib.ListN.{length, length-set}
-use Rattle.report.specs.Bytes.{decoded}
-use Rattle.report.proofs.Decoding.{decoded_from, decode_next, decode_end}
+use mathlib.Core.Path.{◌≡◌}
+use mathlib.Core.List.{map}
+use lib.ListN.{take}
+use Rattle.report.proofs.Decoding.{float_of}
 use Rattle.report.proofs.decode.Given as goal
 
-abbrev pub invariant-loop-i : goal.invariant-loop-i
-invariant-loop-i l = (l.i ≤ length l.out) × (length l.out ≡ length l.initial.out) × (decoded (length l.initial.out) l.bytes ≡ decoded_from l.bytes l.out (length l.initial.out) l.i)
-
-abbrev pub decreases-loop-i : goal.decreases-loop-i
-decreases-loop-i l = length l.out - l.i
+abbrev pub invariant-loop-pattern : goal.invariant-loop-pattern
+invariant-loop-pattern l = l.exponents.items ≡ map float_of (take l.pattern-index l.patterns)

@@ -1,7 +1,6 @@
 -- report::from_bits
 use Rattle.floats.proofs.Pattern.{no_nan_pattern}
 use Rattle.report.proofs.Decoding.{nan_pattern}
-use borrow.Author.Rules.{rules}
 use Rattle.report.proofs.from_bits.Goals as goal
 
 pub float_from_bits-result : goal.float_from_bits-result

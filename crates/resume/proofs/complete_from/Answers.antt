@@ -1,41 +1,12 @@
 -- resume::complete_from
-use borrow.Author.Rules.{rules}
-use native.Mathlib.Omega.{arith}
-use mathlib.Core.Path.{◌≡◌, ap, ◌∙◌}
-use Rattle.rk4.proofs.Tests.{passed_kept}
-use Rattle.benettin.specs.Run.{RunState}
-use Rattle.store.specs.Slots.{memory, windows_at}
+use Rattle.std.proofs.Common.{◌∙◌}
+use Rattle.error.proofs.Tests.{handed_on}
 use Rattle.resume.proofs.GoingOn.{resumed_is}
 use Rattle.resume.proofs.complete_from.Goals as goal
 
-pub complete-done-requires : goal.complete-done-requires
-complete-done-requires c =
-    let p = c.requires in
-    let n = c.load-from.auto in
-    let w : c.load-from.result.windows ≡ windows_at c.args.slot (memory c.args.floats.now c.args.counts.now) = ap (λ (x : RunState). x.totals.finished) c.load-from.ensures.run in
-    record {
-      fits = record {
-        passed = passed_kept n.state p.passed;
-        steps = p.steps;
-        tangents = n.tangents ∙ p.tangents ∙ rw p.passed.state;
-        norms = n.norms ∙ p.norms;
-        bounded = c.load-from.ensures.bounded;
-      };
-      later_limit = omega (arith, p.windows);
-      total_limit = omega (arith, p.windows, w);
-      rows_room = p.rows_room;
-      exponents = p.exponents;
-      state = p.state;
-    }
-
-pub shape_of-state : goal.shape_of-state
-shape_of-state c = c.complete-done.auto.state ∙ c.load-from.auto.state
-
-pub shape_of-tangents : goal.shape_of-tangents
-shape_of-tangents c = c.complete-done.auto.tangents ∙ c.load-from.auto.tangents
+pub returns-in_err-done : goal.returns-in_err-done
+returns-in_err-done c =
+    rw (handed_on c.from_residual.result c.from_residual.ensures.1) (c.in_err-done.ensures.answered ∙ resumed_is _ _ c.args.config _ _ _ _ _ (rw c.requires.passed.state at c.load-from.ensures))
 
 pub returns : goal.returns
-returns c =
-    let a = c.args in
-    resumed_is a.system a.matrix.now a.config a.slot (memory a.floats.now a.counts.now) a.rows.now a.exponents.now a.final_state.now
-    (rw c.requires.passed.state at c.load-from.ensures) c.complete-done.ensures.answered
+returns c = c.in_ok-done.ensures.answered ∙ resumed_is _ _ c.args.config _ _ _ _ _ (rw c.requires.passed.state at c.load-from.ensures)

@@ -1,29 +1,17 @@
 -- rk4::step
-use mathlib.Core.Path.{sym, ap, ◌∙◌}
-use borrow.Author.Rules.{rules}
-use Rattle.error.specs.Refusal.{reported}
-use Rattle.rk4.proofs.Tests.{step_passed, stepped_accepted, stepped_refused}
+use native.Mathlib.Omega.{arith}
+use Rattle.std.proofs.lemmas.Grind.{common_steps}
+use Rattle.rk4.specs.Step.{stepped}
+use Rattle.rk4.proofs.Tests.{step_passed}
 use Rattle.rk4.proofs.step.Goals as goal
 
-pub returns-in-Refused : goal.returns-in-Refused
-returns-in-Refused c =
-    let ar = c.args in
-    sym
-    (stepped_refused ar.system ar.matrix.now ar.time ar.state.now ar.tangents.now ar.tangent_count ar.step_size _
-    (sym (ap reported c.in-Refused.is) ∙ c.validate_step_inputs-tested.ensures))
+pub returns-in_err-validate_step_inputs : goal.returns-in_err-validate_step_inputs
+unfolding stepped
+returns-in_err-validate_step_inputs c = grind (arith, common_steps)
 
 pub step-requires : goal.step-requires
-step-requires c =
-    let ar = c.args in
-    let p =
-    step_passed ar.system ar.matrix.now ar.time ar.state.now ar.tangents.now ar.tangent_count ar.step_size
-    (sym (ap reported c.in_default.is) ∙ c.validate_step_inputs-tested.ensures) in
-    (p.0, p.1)
+step-requires c = let p = step_passed _ _ _ _ _ _ _ c.in_ok-validate_step_inputs.ensures in (p.0, p.1)
 
 pub returns : goal.returns
-returns c =
-    let ar = c.args in
-    c.step.ensures
-    ∙ sym
-    (stepped_accepted ar.system ar.matrix.now ar.time ar.state.now ar.tangents.now ar.tangent_count ar.step_size
-    (sym (ap reported c.in_default.is) ∙ c.validate_step_inputs-tested.ensures))
+unfolding stepped
+returns c = grind (arith, common_steps)

@@ -1,25 +1,35 @@
 -- schedule::is_unfinished
-use borrow.Author.Rules.{rules}
-use mathlib.Core.Path.{◌≡◌}
-use borrow.Author.Tests.{lt-ltb, le-ltb}
+use Rattle.std.proofs.Common.{◌≡◌, Result, Ok, Err, is_ok, refl, sym, ap, ◌∙◌, true, lt-ltb, arith}
+use Rattle.std.specs.Result.{result_and}
 use Rattle.error.specs.Refusal.{reported}
-use Rattle.error.specs.Tests.{first_failing}
+use Rattle.error.specs.Tests.{first_failing, ◌else◌}
+use Rattle.error.specs.declared.LyapunovError.{LyapunovError}
 use Rattle.error.proofs.Tests.{chained}
+use Rattle.schedule.specs.Schedule.{is_passed}
 use Rattle.schedule.specs.Promises.{set_tests}
 use Rattle.schedule.proofs.is_unfinished.Goals as goal
-use Rattle.schedule.proofs.is_unfinished.Goals.{After-first_refusal-passed}
+use Rattle.schedule.proofs.is_unfinished.Goals.{After-and-2}
+
+joined : (a b : Result Unit LyapunovError) → reported (result_and a b) ≡ (reported a else reported b)
+unfolding ◌else◌
+joined (Ok x) b = refl
+joined (Err e) b = refl
+
+passed : (r : Result Unit LyapunovError) → is_passed (reported r) ≡ is_ok r
+passed (Ok x) = refl
+passed (Err e) = refl
 
 -- the blocks of tests, one behind the other
-tested : (c : After-first_refusal-passed) → reported c.first_refusal-passed.result ≡ first_failing (set_tests c.args.settings)
+tested : (c : After-and-2) → is_passed (first_failing (set_tests c.args.settings)) ≡ is_ok c.and-2.result
 tested c =
-    chained _ _ c.first_refusal-passed.ensures c.validate_settings-set.ensures
-    (chained _ _ c.first_refusal-rest.ensures c.validate_dimension-dimension.ensures c.validate_count-count.ensures)
+    let first = chained _ _ (ap reported c.and.ensures ∙ joined _ _) c.validate_settings-set.ensures c.validate_dimension-dimension.ensures in
+    sym (ap is_passed (chained _ _ (ap reported c.and-2.ensures ∙ joined _ _) first c.validate_count-count.ensures)) ∙ passed _
 
-pub returns-in_default : goal.returns-in_default
-returns-in_default c = let t = tested (goal.at.returns-in_default c).After-first_refusal-passed in rw (← t, c.in_default.is)
+pub returns-then-is_err : goal.returns-then-is_err
+returns-then-is_err c = let t = tested (goal.at.returns-then-is_err c).After-and-2 in grind arith
 
-pub returns-then-finished-settings : goal.returns-then-finished-settings
-returns-then-finished-settings c = let t = tested (goal.at.returns-then-finished-settings c).After-first_refusal-passed in rw (← t, c.in-Accepted.is, lt-ltb _ _ c.if-finished-settings.true)
-
-pub returns-else-finished-settings : goal.returns-else-finished-settings
-returns-else-finished-settings c = let t = tested (goal.at.returns-else-finished-settings c).After-first_refusal-passed in rw (← t, c.in-Accepted.is, le-ltb _ _ c.if-finished-settings.false)
+pub returns-then-finished-config : goal.returns-then-finished-config
+returns-then-finished-config c =
+    let t = tested (goal.at.returns-then-finished-config c).After-and-2 in
+    let e : is_ok c.and-2.result ≡ true = grind arith in
+    rw (t, e, lt-ltb c.args.finished c.args.settings.config.windows (omega (arith, c.if-finished-config.true)))

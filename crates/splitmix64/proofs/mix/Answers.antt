@@ -1,5 +1,5 @@
 -- splitmix64::mix
-use Rattle.std.proofs.Common.{ℕ, ◌*◌, ◌%◌, ◌^◌, ap, ◌∙◌, rules}
+use Rattle.std.proofs.Common.{ℕ, ◌*◌, ◌%◌, ◌^◌, ap, ◌∙◌}
 use Rattle.splitmix64.specs.Mix.{xor_shifted, mix}
 use Rattle.splitmix64.proofs.mix.Goals as goal
 

@@ -1,9 +1,8 @@
 -- sqrt::pattern_root
 use mathlib.Core.Path.{◌≡◌, sym, subst}
 use Prim.Native.Nat.{ℕ, ◌-◌, ◌*◌, ◌/◌, ◌%◌, ◌^◌, ◌≤◌, ◌<◌}
-use borrow.Author.Rules.{rules}
 use native.Mathlib.Omega.{arith}
-use lib.Count.{count_leading_zeros, leading_le}
+use lib.Count.{count_leading_zeros}
 use lib.Ieee.{binary64, of_bits}
 use lib.Ieee.Bits.{of_bits-fits}
 use Rattle.sqrt.specs.SquareRoot.{Scaled}
@@ -18,17 +17,8 @@ module _ (b : ℕ) (some : 0 < b) (e : b / 2 ^ 52 ≡ 0) where
   shifted_t : Shifted (b % 2 ^ 52) (count_leading_zeros 64 (b % 2 ^ 52))
   shifted_t = shifted (b % 2 ^ 52) (omega arith) (omega arith)
 
-pub overflow_cast-z : goal.overflow_cast-z
-overflow_cast-z c = omega (arith, leading_le 64 (c.args.b % 2 ^ 52))
-
 pub overflow_sub-z : goal.overflow_sub-z
 overflow_sub-z c = let k = shifted_t c.args.b c.requires.0 c.if-e-eq0.true in k.enough
-
-pub overflow_shl-t : goal.overflow_shl-t
-overflow_shl-t c = let k = shifted_t c.args.b c.requires.0 c.if-e-eq0.true in omega (arith, k.small)
-
-pub overflow_sub-z-then-e-eq0 : goal.overflow_sub-z-then-e-eq0
-overflow_sub-z-then-e-eq0 c = let k = shifted_t c.args.b c.requires.0 c.if-e-eq0.true in omega (arith, k.small)
 
 pub scaled_root-requires : goal.scaled_root-requires
 scaled_root-requires c =

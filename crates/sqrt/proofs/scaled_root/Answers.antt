@@ -5,7 +5,6 @@ use native.Mathlib.Omega.{arith}
 use Rattle.floats.proofs.Pattern.{no_nan_under}
 use Rattle.sqrt.proofs.Whole.{RootOf}
 use Rattle.sqrt.proofs.Answer.{root_of_partial, scaled_law}
-use borrow.Author.Rules.{rules}
 use Rattle.sqrt.proofs.scaled_root.Goals as goal
 use Rattle.sqrt.proofs.scaled_root.Goals.{After-struct_known-1}
 

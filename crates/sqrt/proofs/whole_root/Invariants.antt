@@ -1,11 +1,5 @@
 -- sqrt::whole_root
-use mathlib.Core.Path.{◌≡◌, subst}
-use Prim.Native.Nat.{ℕ, ◌+◌, ◌-◌, ◌*◌, ◌/◌, ◌^◌, ◌≤◌, ◌<◌}
-use native.Mathlib.Nat.{lt_of_le_of_lt, mul-le-mul, mul-le-mul_left, div-lt_iff_lt-mul}
-use native.Mathlib.Omega.{arith}
-use borrow.Author.Rules.{rules}
-use Rattle.sqrt.proofs.Newton.{newton_above, sq_pos}
-use Rattle.sqrt.proofs.Meets.{square_cancel}
+use Prim.Native.Nat.{◌+◌, ◌*◌, ◌^◌, ◌≤◌, ◌<◌}
 use Rattle.sqrt.proofs.whole_root.Given as goal
 
 abbrev pub invariant-loop-r : goal.invariant-loop-r

@@ -2,12 +2,8 @@
 use borrow.Author.Rules.{rules}
 use Rattle.system.specs.System.{tangent}
 use Rattle.system.proofs.Front.{tangent_front}
-use Rattle.system.proofs.Cases.{is_fixed, tangent_matched}
-use borrow.Enum.Refused.{opened}
+use Rattle.system.proofs.Cases.{tangent_matched}
 use Rattle.system.proofs.jacobian_vector_product.Goals as goal
-
-pub fixed_tangent-entries-requires : goal.fixed_tangent-entries-requires
-fixed_tangent-entries-requires c = is_fixed c.args.system (opened c.in_default.in_default-own.keys3)
 
 pub returns-in-Linear : goal.returns-in-Linear
 unfolding tangent

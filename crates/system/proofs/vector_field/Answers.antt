@@ -2,12 +2,8 @@
 use borrow.Author.Rules.{rules}
 use Rattle.system.specs.System.{field}
 use Rattle.system.proofs.Front.{field_front}
-use Rattle.system.proofs.Cases.{is_fixed, field_matched}
-use borrow.Enum.Refused.{opened}
+use Rattle.system.proofs.Cases.{field_matched}
 use Rattle.system.proofs.vector_field.Goals as goal
-
-pub fixed_field-entries-requires : goal.fixed_field-entries-requires
-fixed_field-entries-requires c = is_fixed c.args.system (opened c.in_default.in_default-own.keys3)
 
 pub returns-in-Linear : goal.returns-in-Linear
 unfolding field

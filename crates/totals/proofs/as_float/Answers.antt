@@ -1,5 +1,4 @@
 -- totals::as_float
-use borrow.Author.Rules.{rules}
 use mathlib.Core.Path.{refl}
 use Rattle.benettin.specs.Run as Run
 use Rattle.totals.proofs.as_float.Goals as goal

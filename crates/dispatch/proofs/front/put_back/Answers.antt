@@ -1,5 +1,4 @@
 -- dispatch::front::put_back
-use borrow.Author.Rules.{rules}
 use native.Mathlib.Omega.{arith}
 use Prim.Native.Nat.{ℕ, ◌+◌, ◌*◌}
 use mathlib.Core.Path.{refl, ap, ◌∙◌}
@@ -10,7 +9,7 @@ use Rattle.schedule.specs.Schedule.{rotated}
 use Rattle.dispatch.proofs.front.put_back.Goals as goal
 
 pub save_beside-requires : goal.save_beside-requires
-save_beside-requires c = let p = c.requires in record { fits = record { memory = (p.memory, p.counts); slot = p.slot; entries = omega (arith, p.state, p.entries); few = p.few }; state = refl; norms = p.norms; made = limit + limit + 1; measured = limit + 1; bounded = p.bounded }
+save_beside-requires c = let p = c.requires in record { fits = record { slot = p.slot; entries = omega (arith, p.state, p.entries); few = p.few }; state = refl; made = limit + limit + 1; measured = limit + 1; bounded = p.bounded }
 
 pub returns : goal.returns
 returns c =

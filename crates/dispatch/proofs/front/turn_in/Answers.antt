@@ -1,15 +1,58 @@
 -- dispatch::front::turn_in
-use borrow.Author.Rules.{rules}
-use mathlib.Core.Path.{sym, ◌∙◌}
-use Rattle.dispatch.proofs.Turns.{on_returns, over_returns}
+use Rattle.std.proofs.Common.{arith, ap, ◌∙◌, length}
+use Rattle.totals.specs.Progress.{carried}
+use Rattle.store.proofs.Laid.{few_entries}
+use Rattle.dispatch.proofs.Turns.{leaves, puts_back, on_returns, ends, last_over, last_answered, refused_over, refused_answered, over_returns}
 use Rattle.dispatch.proofs.front.turn_in.Goals as goal
 
-pub returns-then-goes_on : goal.returns-then-goes_on
-returns-then-goes_on c =
-    on_returns c.requires c.load_beside-from.ensures c.make_window-done.ensures c.put_back.ensures
-    (c.make_window-done.auto.state ∙ c.load_beside-from.auto.state ∙ c.requires.passed.state)
-    (c.make_window-done.auto.norms ∙ c.load_beside-from.auto.norms ∙ c.requires.norms)
-    (sym c.goes_on.ensures ∙ c.if-goes_on.true) c.not_over.ensures
+pub overflow_mul-count : goal.overflow_mul-count
+overflow_mul-count c =
+    let p = c.requires.passed in
+    omega (arith, few_entries c.args.settings.config.top_k (length c.load_beside-progress.new.state) p.count (omega (arith, c.load_beside-progress.auto.state, p.state, p.dimension_within)))
+
+pub leave-requires : goal.leave-requires
+leave-requires c =
+    let y = c.load_beside-progress.auto.state ∙ c.requires.passed.state in
+    leaves c.requires c.load_beside-progress.ensures c.make_window-made.ensures (c.make_window-made.auto.state ∙ y) c.told-floats _ y
+
+pub returns-in-Err : goal.returns-in-Err
+returns-in-Err c =
+    let R = c.requires in
+    let L = c.load_beside-progress.ensures in
+    let W = c.make_window-made.ensures in
+    let y = c.load_beside-progress.auto.state ∙ R.passed.state in
+    let x = c.make_window-made.auto.state ∙ y in
+    let l = c.told-floats in
+    let e = ap (carried c.make_window-made.new.progress) c.in-Err.is in
+    over_returns R L W x l _ y c.leave.ensures (refused_over R L W x l e) (refused_answered R L W x l e)
+
+pub put_back-requires : goal.put_back-requires
+put_back-requires c =
+    puts_back c.requires c.load_beside-progress.ensures c.make_window-made.ensures (c.make_window-made.auto.state ∙ c.load_beside-progress.auto.state ∙ c.requires.passed.state) c.told-floats (ap (carried c.make_window-made.new.progress) c.in_default.is)
+
+pub returns-then-progress-config : goal.returns-then-progress-config
+returns-then-progress-config c =
+    let R = c.requires in
+    let L = c.load_beside-progress.ensures in
+    let W = c.make_window-made.ensures in
+    on_returns R L W (c.make_window-made.auto.state ∙ c.load_beside-progress.auto.state ∙ R.passed.state) c.told-floats (ap (carried c.make_window-made.new.progress) c.in_default.is) c.put_back.ensures c.if-progress-config.true
+
+pub leave-requires-2 : goal.leave-requires-2
+leave-requires-2 c =
+    let y = c.load_beside-progress.auto.state ∙ c.requires.passed.state in
+    leaves c.requires c.load_beside-progress.ensures c.make_window-made.ensures (c.make_window-made.auto.state ∙ y) c.told-floats _ y
+
+pub end-estimate-requires : goal.end-estimate-requires
+end-estimate-requires c =
+    ends c.requires c.load_beside-progress.ensures c.make_window-made.ensures (c.make_window-made.auto.state ∙ c.load_beside-progress.auto.state ∙ c.requires.passed.state) c.told-floats (ap (carried c.make_window-made.new.progress) c.in_default.is)
 
 pub returns : goal.returns
-returns c = over_returns c.requires c.load_beside-from.ensures c.make_window-done.ensures c.finish-estimate.ensures (sym c.goes_on.ensures ∙ c.if-goes_on.false)
+returns c =
+    let R = c.requires in
+    let L = c.load_beside-progress.ensures in
+    let W = c.make_window-made.ensures in
+    let y = c.load_beside-progress.auto.state ∙ R.passed.state in
+    let x = c.make_window-made.auto.state ∙ y in
+    let l = c.told-floats in
+    let e = ap (carried c.make_window-made.new.progress) c.in_default.is in
+    over_returns R L W x l _ y c.leave-2.ensures (last_over R L W x l e c.if-progress-config.false) (last_answered R L W x l e c.end-estimate.ensures)

@@ -1,18 +1,15 @@
 -- dispatch::front::turn_of
-use borrow.Author.Rules.{rules}
-use native.Mathlib.Omega.{arith}
-use mathlib.Core.Path.{refl, sym, ap, ◌∙◌}
+use Rattle.std.proofs.Common.{arith, refl, sym, ◌∙◌}
 use lib.Seq.{length-take-le}
-use Rattle.error.specs.Refusal.{reported}
 use Rattle.dispatch.proofs.Turns.{limited, few_begun, unfit_returns, fit_returns, turns_in}
 use Rattle.dispatch.proofs.front.turn_of.Goals as goal
 
 pub overflow_add-result : goal.overflow_add-result
 overflow_add-result c = omega (arith, few_begun c.requires c.settings_at-set.ensures (c.windows_at.ensures c.args.floats.now))
 
-pub returns-in-Refused : goal.returns-in-Refused
-returns-in-Refused c =
-    unfit_returns c.requires c.settings_at-set.ensures c.args.matrix.now c.args.rows.now c.args.exponents.now c.args.final_state.now _ (sym (ap reported c.in-Refused.is) ∙ c.validate_turn-outcome.ensures) c.not_over.ensures (c.windows_at.ensures c.args.floats.now)
+pub returns-in-Err : goal.returns-in-Err
+returns-in-Err c =
+    unfit_returns c.requires c.settings_at-set.ensures c.args.matrix.now c.args.rows.now c.args.exponents.now c.args.final_state.now _ (rw c.of-lengths.ensures at c.in-Err.ensures) (c.windows_at.ensures c.args.floats.now)
 
 pub slice_bounds-moving-end : goal.slice_bounds-moving-end
 slice_bounds-moving-end c = omega (arith, c.dimension-d.ensures, (limited c.requires c.settings_at-set.ensures).4)
@@ -22,8 +19,8 @@ slice_bounds-turn_in-end c = sym (length-take-le _ _ (omega (arith, c.dimension-
 
 pub turn_in-requires : goal.turn_in-requires
 turn_in-requires c =
-    turns_in c.requires c.settings_at-set.ensures c.args.matrix.now c.args.rows.now c.args.exponents.now c.args.final_state.now (sym (ap reported c.in_default.is) ∙ c.validate_turn-outcome.ensures)
-    (length-take-le _ _ (omega (arith, c.dimension-d.ensures, (limited c.requires c.settings_at-set.ensures).4)) ∙ c.dimension-d.ensures) refl
+    turns_in c.requires c.settings_at-set.ensures c.args.matrix.now c.args.rows.now c.args.exponents.now c.args.final_state.now (rw c.of-lengths.ensures at c.in_default.ensures)
+    (length-take-le _ _ (omega (arith, c.dimension-d.ensures, (limited c.requires c.settings_at-set.ensures).4)) ∙ c.dimension-d.ensures)
 
 pub returns : goal.returns
-returns c = fit_returns c.requires c.settings_at-set.ensures c.args.matrix.now c.args.rows.now c.args.exponents.now c.args.final_state.now (sym (ap reported c.in_default.is) ∙ c.validate_turn-outcome.ensures) c.turn_in.ensures
+returns c = fit_returns c.requires c.settings_at-set.ensures c.args.matrix.now c.args.rows.now c.args.exponents.now c.args.final_state.now (rw c.of-lengths.ensures at c.in_default.ensures) c.turn_in.ensures

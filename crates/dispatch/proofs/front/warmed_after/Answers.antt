@@ -1,5 +1,4 @@
 -- dispatch::front::warmed_after
-use borrow.Author.Rules.{rules}
 use native.Mathlib.Numerals.{add-one}
 use borrow.Author.Tests.{lt-ltb, le-ltb}
 use Rattle.dispatch.proofs.front.warmed_after.Goals as goal

@@ -1,25 +1,16 @@
 -- progress::advance::advance_steps
-use borrow.Author.Rules.{rules}
-use Prim.Native.Nat.{◌-◌}
-use mathlib.Core.Path.{sym, ◌∙◌}
-use Rattle.progress.proofs.Steps.{Stepping, stepping_start, stepping_on, stepping_refused, stepping_late, stepping_end}
+use Rattle.std.proofs.Common.{sym, arith}
+use Rattle.progress.proofs.Steps.{stepping_on, stepping_refused, stepping_late, stepping_end}
 use Rattle.progress.proofs.advance.advance_steps.Goals as goal
 
-pub loop-i-init : goal.loop-i-init
-loop-i-init c = stepping_start c.requires.0 c.requires.1 c.requires.2
+pub returns-in-Err : goal.returns-in-Err
+returns-in-Err c = stepping_refused c.loop-made.invariant _ _ c.loop-made-test.true c.in-Err.ensures
 
-pub returns-in-Refused : goal.returns-in-Refused
-returns-in-Refused c =
-    stepping_refused c.loop-i.invariant c.step.result _ _ c.step.ensures c.loop-i-test.true c.in-Refused.is
+pub returns-then-not-is_finite : goal.returns-then-not-is_finite
+returns-then-not-is_finite c = stepping_late c.loop-made.invariant _ _ c.loop-made-test.true c.in_default.ensures (sym c.if-not-is_finite.ensures)
 
-pub loop-i-preserved : goal.loop-i-preserved
-loop-i-preserved c =
-    stepping_on c.loop-i.invariant c.step.result _ _ c.step.ensures c.loop-i-test.true c.step.auto.state c.step.auto.tangents c.in_default.is
-    (sym c.is_finite.ensures ∙ c.if-is_finite.true)
-
-pub returns-else-is_finite : goal.returns-else-is_finite
-returns-else-is_finite c =
-    stepping_late c.loop-i.invariant c.step.result _ _ c.step.ensures c.loop-i-test.true c.in_default.is (sym c.is_finite.ensures ∙ c.if-is_finite.false)
+pub loop-made-preserved : goal.loop-made-preserved
+loop-made-preserved c = stepping_on c.loop-made.invariant _ _ c.loop-made-test.true c.in_default.ensures c.step.auto.state c.step.auto.tangents (sym c.if-not-is_finite.ensures)
 
 pub returns : goal.returns
-returns c = stepping_end c.loop-i.invariant c.loop-i-test.false
+returns c = stepping_end c.loop-made.invariant (omega arith)

@@ -13,8 +13,8 @@ unfolding of_bits
 returns c m e =
     let a = c.args in
     let d = dim a.system in
-    let front : take d c.load.new.out ≡ a.t.now = loaded_front a.t.now c.requires.0 _ c.load.ensures.1 in
-    let stages : Staged d 16 a.h c.load.new.out _ _ _ _ _ _ _ _ _ _ _ =
+    let front : take d c.copy_pairs.new.out ≡ a.t.now = loaded_front a.t.now c.requires.0 _ c.copy_pairs.ensures in
+    let stages : Staged d 16 a.h c.copy_pairs.new.out _ _ _ _ _ _ _ _ _ _ _ =
     record {
       within = c.requires.1;
       derivative₁ = c.jacobian_vector_product.ensures.1 m e;
@@ -25,7 +25,7 @@ returns c m e =
       point₄ = c.combine_stage-t4.ensures;
       derivative₄ = c.jacobian_vector_product-4.ensures.1 m e;
     } in
-    stored_front a.t.now c.requires.0 _ _ c.store.ensures
+    stored_front a.t.now c.requires.0 _ _ c.copy_pairs-2.ensures
     ∙ four_stages stages _ c.rk4_update-next.ensures
     ∙ ap (moved (rk4 a.h) _) front
     ∙ ap (λ (xs : List (Bor (List Float))). moved (rk4 a.h) (along a.system m (map (λ x. x.now) xs)) a.t.now) (four_places _ a.points.now (search rules))

@@ -1,6 +1,5 @@
 -- system::fixed::fixed_field
-use borrow.Author.Rules.{rules}
-use Rattle.system.proofs.Cases.{not_fixed, field_case}
+use Rattle.system.proofs.Cases.{field_case}
 use Rattle.system.proofs.fixed.fixed_field.Goals as goal
 
 pub returns-in-Lorenz : goal.returns-in-Lorenz
@@ -11,6 +10,3 @@ returns-in-Rossler c = field_case c.in-Rossler.is tt _ _ c.rossler_field.ensures
 
 pub returns-in-VanDerPol : goal.returns-in-VanDerPol
 returns-in-VanDerPol c = field_case c.in-VanDerPol.is tt _ _ c.van_der_pol_field.ensures
-
-pub returns-in_default : goal.returns-in_default
-returns-in_default c m = absurd (not_fixed c.args.system c.in_default.in_default-own.keys4 c.requires)

@@ -1,7 +1,6 @@
 -- system::fixed::fixed_tangent
-use borrow.Author.Rules.{rules}
 use Rattle.system.specs.System.{tangent}
-use Rattle.system.proofs.Cases.{not_fixed, tangent_case}
+use Rattle.system.proofs.Cases.{tangent_case}
 use Rattle.system.proofs.fixed.fixed_tangent.Goals as goal
 
 pub returns-in-Lorenz : goal.returns-in-Lorenz
@@ -14,6 +13,3 @@ returns-in-Rossler c = tangent_case c.in-Rossler.is tt _ _ _ c.rossler_tangent.e
 
 pub returns-in-VanDerPol : goal.returns-in-VanDerPol
 returns-in-VanDerPol c = tangent_case c.in-VanDerPol.is tt _ _ _ c.van_der_pol_tangent.ensures
-
-pub returns-in_default : goal.returns-in_default
-returns-in_default c m = absurd (not_fixed c.args.system c.in_default.in_default-own.keys4 c.requires)

@@ -1,6 +1,5 @@
 -- system::fixed::lorenz_field
 use mathlib.Core.Path.{refl}
-use borrow.Author.Rules.{rules}
 use lib.Ieee.{of_bits}
 use Rattle.system.specs.System.{field}
 use Rattle.system.proofs.fixed.lorenz_field.Goals as goal

@@ -1,6 +1,5 @@
 -- system::fixed::lorenz_tangent
 use mathlib.Core.Path.{refl}
-use borrow.Author.Rules.{rules}
 use lib.Ieee.{of_bits}
 use Rattle.system.specs.System.{tangent}
 use Rattle.system.proofs.fixed.lorenz_tangent.Goals as goal

@@ -1,6 +1,5 @@
 -- system::fixed::rossler_field
 use mathlib.Core.Path.{refl}
-use borrow.Author.Rules.{rules}
 use lib.Ieee.{of_bits}
 use Rattle.system.specs.System.{field}
 use Rattle.system.proofs.fixed.rossler_field.Goals as goal

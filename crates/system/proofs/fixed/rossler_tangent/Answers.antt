@@ -1,6 +1,5 @@
 -- system::fixed::rossler_tangent
 use mathlib.Core.Path.{refl}
-use borrow.Author.Rules.{rules}
 use lib.Ieee.{of_bits}
 use Rattle.system.specs.System.{tangent}
 use Rattle.system.proofs.fixed.rossler_tangent.Goals as goal

@@ -1,6 +1,5 @@
 -- system::fixed::van_der_pol_field
 use mathlib.Core.Path.{refl}
-use borrow.Author.Rules.{rules}
 use lib.Ieee.{of_bits}
 use Rattle.system.specs.System.{field}
 use Rattle.system.proofs.fixed.van_der_pol_field.Goals as goal

@@ -1,6 +1,5 @@
 -- system::fixed::van_der_pol_tangent
 use mathlib.Core.Path.{refl}
-use borrow.Author.Rules.{rules}
 use lib.Ieee.{of_bits, neg}
 use Rattle.system.specs.System.{tangent}
 use Rattle.system.proofs.fixed.van_der_pol_tangent.Goals as goal
