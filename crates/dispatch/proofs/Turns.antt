@@ -311,10 +311,10 @@ module _ {j : ℕ} {s : Settings} {a x rows es fs F f : List Float} {C q : List 
           bounded = bounded_up (omega arith) (omega arith) bounds;
         }
 
-    pub last_over : n ≤ p'.windows → turn J a zs ≡ over (ended_by J a zs t)
+    last_over : n ≤ p'.windows → turn J a zs ≡ over (ended_by J a zs t)
     last_over g = turned_is (le-ltb _ _ g)
 
-    pub last_answered : {r : SpectrumEstimate} {es' fs' : List Float} → Ended k (s.config.step_size ⊗ as_float s.config.steps_per_window) n x' p' es fs r es' fs' → observed (Ok r) rows' es' fs' ≡ ended_by J a zs t
+    last_answered : {r : SpectrumEstimate} {es' fs' : List Float} → Ended k (s.config.step_size ⊗ as_float s.config.steps_per_window) n x' p' es fs r es' fs' → observed (Ok r) rows' es' fs' ≡ ended_by J a zs t
     unfolding dynamics
     last_answered {r} {es'} {fs'} E =
         ap (λ (l : List Float). observed (Ok r) l es' fs') (sym rows_left)
@@ -324,11 +324,11 @@ module _ {j : ℕ} {s : Settings} {a x rows es fs F f : List Float} {C q : List 
   -- ---- it is refused
 
   module _ {u : RefusedRun} (e : o ≡ Err u) where
-    pub refused_over : turn J a zs ≡ over (ended_by J a zs t)
+    refused_over : turn J a zs ≡ over (ended_by J a zs t)
     unfolding turn
     refused_over = ap (λ (v : Status). turned_by v J a zs t) (end_is e)
 
-    pub refused_answered : observed (Err u) rows' es fs ≡ ended_by J a zs t
+    refused_answered : observed (Err u) rows' es fs ≡ ended_by J a zs t
     unfolding outputs_from answer
     refused_answered = rw (← rows_left, end_is e, none_faint k)
 
@@ -355,7 +355,7 @@ module _ {j : ℕ} {s : Settings} {a x rows es fs F f : List Float} {C q : List 
     unfolding taken_out
     out_is = ap₂ (λ (l : List Float) (u : List ℕ). memory (Slots.memory l C) f u) (sym floats_are) (sym N.queue_is)
 
-    pub over_returns : {r : Result SpectrumEstimate RefusedRun} {es' fs' : List Float} → turn J a zs ≡ over (ended_by J a zs t) → observed r rows' es' fs' ≡ ended_by J a zs t
+    over_returns : {r : Result SpectrumEstimate RefusedRun} {es' fs' : List Float} → turn J a zs ≡ over (ended_by J a zs t) → observed r rows' es' fs' ≡ ended_by J a zs t
         → TurnReturns (Over j (s.warmed + p.windows + 1) r) zs (slices rows' es' fs') (memory (Slots.memory F″ C) f q″) (given_in none j a zs m)
     over_returns {r} {es'} {fs'} g h =
         record {
@@ -365,3 +365,10 @@ module _ {j : ℕ} {s : Settings} {a x rows es fs F f : List Float} {C q : List 
               ∙ ap (λ (y : Memory). served y (finished j (s.warmed + p.windows + 1) (observed r rows' es' fs'))) out_is;
           untouched = λ u. absurd u;
         }
+
+    pub refused_returns : {u : RefusedRun} → o ≡ Err u → TurnReturns (Over j (s.warmed + p.windows + 1) (Err u)) zs (slices rows' es fs) (memory (Slots.memory F″ C) f q″) (given_in none j a zs m)
+    refused_returns e = over_returns (refused_over e) (refused_answered e)
+
+    pub last_returns : {p' : Progress} → o ≡ Ok p' → n ≤ p'.windows → {r : SpectrumEstimate} {es' fs' : List Float} → Ended k (s.config.step_size ⊗ as_float s.config.steps_per_window) n x' p' es fs r es' fs'
+        → TurnReturns (Over j (s.warmed + p.windows + 1) (Ok r)) zs (slices rows' es' fs') (memory (Slots.memory F″ C) f q″) (given_in none j a zs m)
+    last_returns e g E = over_returns (last_over e g) (last_answered e E)

@@ -25,7 +25,7 @@ pub record Fits (S : System) (m : List Float) (c : BenettinConfig) (made measure
   pub tangents : length H.tangents ≡ c.top_k * dim S
   pub bounded : Bounded c.top_k made measured H.progress
 
--- what a run begins with: a state, room for directions of as many entries, and for their numbers
+-- what a run begins with: a state, and room for directions of as many entries
 pub record Begins (c : BenettinConfig) (time : Float) (x t : List Float) : Type 0 where
   pub above : 0 < length x
   pub few : c.top_k ≤ 16
@@ -67,7 +67,7 @@ pub record Begun (c : BenettinConfig) (time : Float) (x t ns : List Float) (r : 
 
 -- ---- measured windows
 
--- what a window is recorded with: its logarithms, and room for its row
+-- what a window is recorded with: room for its row
 pub record Records (c : BenettinConfig) (r : List Float) (p : Progress) : Type 0 where
   pub few : c.top_k ≤ 16
   pub steps : c.steps_per_window ≤ limit

@@ -1,5 +1,4 @@
 -- progress::measured_window
-use Rattle.std.proofs.Common.{◌∙◌}
 use Rattle.totals.specs.Ending.{most}
 use Rattle.progress.proofs.Windows.{measured_done}
 use Rattle.progress.proofs.measured_window.Goals as goal

@@ -1,5 +1,5 @@
 -- resume::go_on_from
-use Rattle.std.proofs.Common.{◌≡◌, ◌+◌, ◌*◌, ◌≤◌, refl, ◌∙◌, [], length, arith}
+use Rattle.std.proofs.Common.{◌≡◌, ◌+◌, ◌*◌, ◌≤◌, ◌∙◌, [], length, arith}
 use Rattle.std.proofs.Math.Option.{none}
 use lib.ListN.{length-take}
 use lib.Seq.{length-take-le}

@@ -2,7 +2,7 @@
 use Rattle.std.proofs.Common.{arith, ap, ◌∙◌, length}
 use Rattle.totals.specs.Progress.{carried}
 use Rattle.store.proofs.Laid.{few_entries}
-use Rattle.dispatch.proofs.Turns.{leaves, puts_back, on_returns, ends, last_over, last_answered, refused_over, refused_answered, over_returns}
+use Rattle.dispatch.proofs.Turns.{leaves, puts_back, on_returns, ends, refused_returns, last_returns}
 use Rattle.dispatch.proofs.front.turn_in.Goals as goal
 
 pub overflow_mul-count : goal.overflow_mul-count
@@ -17,14 +17,8 @@ leave-requires c =
 
 pub returns-in-Err : goal.returns-in-Err
 returns-in-Err c =
-    let R = c.requires in
-    let L = c.load_beside-progress.ensures in
-    let W = c.make_window-made.ensures in
-    let y = c.load_beside-progress.auto.state ∙ R.passed.state in
-    let x = c.make_window-made.auto.state ∙ y in
-    let l = c.told-floats in
-    let e = ap (carried c.make_window-made.new.progress) c.in-Err.is in
-    over_returns R L W x l _ y c.leave.ensures (refused_over R L W x l e) (refused_answered R L W x l e)
+    let y = c.load_beside-progress.auto.state ∙ c.requires.passed.state in
+    refused_returns c.requires c.load_beside-progress.ensures c.make_window-made.ensures (c.make_window-made.auto.state ∙ y) c.told-floats _ y c.leave.ensures (ap (carried c.make_window-made.new.progress) c.in-Err.is)
 
 pub put_back-requires : goal.put_back-requires
 put_back-requires c =
@@ -48,11 +42,5 @@ end-estimate-requires c =
 
 pub returns : goal.returns
 returns c =
-    let R = c.requires in
-    let L = c.load_beside-progress.ensures in
-    let W = c.make_window-made.ensures in
-    let y = c.load_beside-progress.auto.state ∙ R.passed.state in
-    let x = c.make_window-made.auto.state ∙ y in
-    let l = c.told-floats in
-    let e = ap (carried c.make_window-made.new.progress) c.in_default.is in
-    over_returns R L W x l _ y c.leave-2.ensures (last_over R L W x l e c.if-progress-config.false) (last_answered R L W x l e c.end-estimate.ensures)
+    let y = c.load_beside-progress.auto.state ∙ c.requires.passed.state in
+    last_returns c.requires c.load_beside-progress.ensures c.make_window-made.ensures (c.make_window-made.auto.state ∙ y) c.told-floats _ y c.leave-2.ensures (ap (carried c.make_window-made.new.progress) c.in_default.is) c.if-progress-config.false c.end-estimate.ensures

@@ -1,5 +1,5 @@
 -- dispatch::front::turn_of
-use Rattle.std.proofs.Common.{arith, refl, sym, ◌∙◌}
+use Rattle.std.proofs.Common.{arith, sym, ◌∙◌}
 use lib.Seq.{length-take-le}
 use Rattle.dispatch.proofs.Turns.{limited, few_begun, unfit_returns, fit_returns, turns_in}
 use Rattle.dispatch.proofs.front.turn_of.Goals as goal
