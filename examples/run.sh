@@ -12,7 +12,7 @@ work=$(mktemp -d)
 trap 'rm -rf "$work"' EXIT
 
 cc=${CC:-cc}
-for example in lorenz continuations; do
+for example in lorenz continuations circuits; do
     "$cc" -std=c99 -pedantic -Wall -Wextra -Werror -O2 -I "$root/include" \
         "$root/examples/$example.c" "$archive" -o "$work/$example"
     "$work/$example"

@@ -25,24 +25,26 @@
  *     struct lyapunov_estimate estimate = lyapunov_spectrum(
  *         &lorenz, lyapunov_lent_const(start, 3), &built.settings, &outputs);
  *
- * examples/lorenz.c is a whole program, and examples/continuations.c one that goes on from a kept
- * state, see KEEPING A STATE. The structs and the functions that take them stand at the end of this
+ * examples/lorenz.c is a whole program, examples/continuations.c one that goes on from a kept
+ * state, see KEEPING A STATE, and examples/circuits.c one that runs several circuits side by side,
+ * see SEVERAL CIRCUITS. The structs and the functions that take them stand at the end of this
  * header; they are `static inline`, over the exported functions that come before them. Those take
  * numbers and pointers alone, for other languages and for programs that call them already.
  *
  * LATER VERSIONS keep what this one has: exported functions keep their arguments and their meaning.
  * Structs may get more fields. A program that makes them by the functions here, and sets and reads
  * fields by name, compiles and means the same: a new setting starts as what a run does today, and a
- * new output as one that is not lent. A store of kept states is for the archive of this header:
- * another version may need longer arrays, and reads none that this one filled. Names that begin
- * with lyapunov_ and LYAPUNOV_ belong to this header.
+ * new output as one that is not lent. A store of kept states and a dispatcher are for the archive
+ * of this header: another version may need longer arrays, and reads none that this one filled.
+ * Names that begin with lyapunov_ and LYAPUNOV_ belong to this header.
  *
  * WHAT A CALL ANSWERS
  *
  * A function that can refuse returns the number of the refusal, and 0 where it did what it was
  * asked to do. The refusals are listed below. A refusal may have a place: an index, a direction, a
- * count or an output. It is written to *place, and to counts[0] by a run. It is written by every
- * call that takes it: 0 where the refusal has no place, and 0 where nothing is refused.
+ * count or an output. It is written to *place, to counts[0] by a run, and by an unfit turn to
+ * event[3]. It is written by every call that takes it: 0 where the refusal has no place, and 0
+ * where nothing is refused.
  *
  * Any number, infinity or NaN may be handed in: no value leads to anything but an answer or a
  * refusal, and every call ends. A float that is computed or left in a slice equals the one that
@@ -102,6 +104,8 @@
  * Whoever keeps states, before all other tests:
  *   26  nothing is kept under the number; on going on and forgetting
  *   27  eight other numbers are kept; on keeping
+ * Whoever hands runs in, before all other tests:
+ *   28  eight runs are unfinished; on handing in
  * Whoever reads rates:
  *   20  there are no exponents
  *   21  there are more than LYAPUNOV_MAX_EXPONENTS exponents
@@ -130,6 +134,14 @@ extern "C" {
 #define LYAPUNOV_STORE_STATES 8
 #define LYAPUNOV_STORE_FLOATS 2568
 #define LYAPUNOV_STORE_COUNTS 152
+/* The most unfinished runs of a dispatcher, the lengths of its four arrays, and the name of no
+ * run. */
+#define LYAPUNOV_DISPATCHER_RUNS 8
+#define LYAPUNOV_DISPATCHER_FLOATS 2568
+#define LYAPUNOV_DISPATCHER_COUNTS 152
+#define LYAPUNOV_DISPATCHER_SETTINGS 32
+#define LYAPUNOV_DISPATCHER_QUEUE 65
+#define LYAPUNOV_NOBODY UINT64_C(8)
 /* The seed to take where there is no reason for another. */
 #define LYAPUNOV_DEFAULT_SEED UINT64_C(0x4c594150554e4f56)
 
@@ -332,6 +344,94 @@ uint64_t lyapunov_go_on(
 
 /* Forgets what is kept under the number. */
 uint64_t lyapunov_forget(const double *store_floats, uint64_t *store_counts, uint8_t number);
+
+/*
+ * SEVERAL CIRCUITS: up to eight runs side by side. Each is handed in to a dispatcher once, which
+ * names it by a number from 0 to 7. Then turns are taken: each makes one window, warm-up or
+ * measured, of the run in front of a queue.
+ *
+ *   run_floats     LYAPUNOV_DISPATCHER_FLOATS floats,
+ *   run_counts     LYAPUNOV_DISPATCHER_COUNTS numbers,
+ *   run_settings   LYAPUNOV_DISPATCHER_SETTINGS floats, and
+ *   queue          LYAPUNOV_DISPATCHER_QUEUE numbers: the dispatcher; struct lyapunov_dispatcher
+ *                  has all four
+ *   name           the name of the run, LYAPUNOV_NOBODY where it is refused
+ *   event          LYAPUNOV_EVENTS numbers that tell what the turn was, see the enums below
+ *   all others     as in A RUN; its matrix and its outputs are lent with the turns
+ *
+ * THE DISPATCHER is the caller's memory, and what is said of THE STORE holds for its four arrays:
+ * any number of them, copies, and any content. In memory that no call has made, lyapunov_next may
+ * name a run whose turn then changes nothing, as if nobody were next.
+ *
+ * HANDING IN tests the run and draws its directions. The run is named by the least number from 0
+ * that no other unfinished run has, and goes to the back of the queue. A refused run is not taken:
+ * the dispatcher stays as it is.
+ *
+ * A TURN belongs to the run in front, which lyapunov_next names. It is spent on one window of that
+ * run, which then goes to the back, unless it is over. So among any eight spent turns in a row each
+ * run that is unfinished throughout them has at least one. Where nobody is next, a turn writes
+ * nothing but event, and 0 is returned.
+ *
+ * WHAT MUST BE LENT with a turn is what the run in front needs when it runs alone: the matrix of a
+ * linear system, and the three outputs in their full lengths. Each run has slices of its own, the
+ * same at each of its turns, and nobody else writes them in between. Whether they are the same is
+ * not tested; where they are not, it is as with WHAT MUST BE BROUGHT above. Between turns rows
+ * holds the rows of the measured windows so far, each at its place, and all else is as it was.
+ *
+ * AN UNFIT TURN is one that 9 or 13 refuses; they are tested each time. It is not spent: the run
+ * stays in front, and nothing but event is written. A loop over turns must see to that.
+ *
+ * OVER. A run is over with the turn in which it ends or is refused by 14, 16, 17 or 18. Then, and
+ * not before, its number, counts, times, exponents and final state are answered. With them and with
+ * its rows it has what lyapunov_estimate_spectrum_at answers and writes for the same run alone, to
+ * the bit, whatever the other runs do. Its name is free at once for the next run that is handed in.
+ *
+ * ORDER OF TESTS. On handing in 28, with place 0; then those of a run up to 12 without 9; then the
+ * directions are drawn (14) and 15 is tested. On a turn 9 and 13; then those of a run's window.
+ */
+
+/* What a turn was. */
+enum lyapunov_stages {
+    LYAPUNOV_STAGE_NOBODY = 0,    /* nobody is next */
+    LYAPUNOV_STAGE_UNFIT = 1,     /* refused by 9 or 13, and not spent */
+    LYAPUNOV_STAGE_UNDER_WAY = 2, /* a window was made, and more are left */
+    LYAPUNOV_STAGE_OVER = 3       /* the run ended or was refused in its window */
+};
+
+/* Places in event, which every turn writes. */
+enum lyapunov_events {
+    LYAPUNOV_EVENT_STAGE = 0, /* one of the stages */
+    LYAPUNOV_EVENT_NAME = 1,  /* of the run in front, LYAPUNOV_NOBODY for nobody */
+    LYAPUNOV_EVENT_BEGUN = 2, /* windows of that run that have been begun, warm-up and this turn's
+                               * included; 0 for nobody */
+    LYAPUNOV_EVENT_PLACE = 3, /* the place of the refusal of an unfit turn, else 0 */
+    LYAPUNOV_EVENTS = 4       /* the length of event */
+};
+
+/* Makes a dispatcher without runs. Of its other arrays nothing need be set. */
+void lyapunov_empty_dispatcher(uint64_t *queue);
+
+/* Hands a run in. *name and *place are always written. */
+uint64_t lyapunov_hand_in(
+    double *run_floats, uint64_t *run_counts, double *run_settings, uint64_t *queue,
+    uint64_t kind, double p0, double p1, double p2,
+    size_t dimension,
+    double time, const double *state, size_t state_len,
+    size_t top_k, double step_size, uint64_t steps_per_window, uint64_t windows,
+    uint64_t transient_windows, uint64_t seed,
+    uint64_t *name, uint64_t *place);
+
+/* Whose turn is next: the name of a run, or LYAPUNOV_NOBODY. */
+uint64_t lyapunov_next(const uint64_t *queue);
+
+/* Makes a window of the run whose turn it is. */
+uint64_t lyapunov_turn(
+    double *run_floats, uint64_t *run_counts, const double *run_settings, uint64_t *queue,
+    const double *matrix, size_t matrix_len,
+    double *rows, size_t rows_len,
+    double *exponents, size_t exponents_len,
+    double *final_state, size_t final_state_len,
+    uint64_t *event, uint64_t *counts, double *times);
 
 /*
  * Tests the settings of a run without running: 1 to 5, with no warm-up windows. A run tests them
@@ -627,6 +727,38 @@ struct lyapunov_store {
     uint64_t counts[LYAPUNOV_STORE_COUNTS];
 };
 
+/* Where runs are under way side by side, see SEVERAL CIRCUITS above; it has 22,536 bytes. Empty it
+ * by lyapunov_dispatcher_empty first. It may be copied as any struct.
+ *
+ *     lyapunov_dispatcher_empty(&dispatcher);
+ *     admission = lyapunov_dispatcher_hand_in(&dispatcher, &system, 0.0, start, &settings);
+ *     while ((name = lyapunov_dispatcher_next(&dispatcher)) != LYAPUNOV_NOBODY) {
+ *         turn = lyapunov_dispatcher_turn(&dispatcher, &systems[name], &outputs[name]);
+ *         if (turn.stage < LYAPUNOV_STAGE_UNDER_WAY) break;
+ *     }
+ */
+struct lyapunov_dispatcher {
+    double floats[LYAPUNOV_DISPATCHER_FLOATS];
+    uint64_t counts[LYAPUNOV_DISPATCHER_COUNTS];
+    double settings[LYAPUNOV_DISPATCHER_SETTINGS];
+    uint64_t queue[LYAPUNOV_DISPATCHER_QUEUE];
+};
+
+/* What a hand-in answers. */
+struct lyapunov_admission {
+    struct lyapunov_refusal refusal;
+    uint64_t name; /* LYAPUNOV_NOBODY where the run is refused */
+};
+
+/* What a turn answers beside its outputs. */
+struct lyapunov_turn_taken {
+    uint64_t stage; /* one of enum lyapunov_stages */
+    uint64_t name;  /* of the run in front, LYAPUNOV_NOBODY for nobody */
+    uint64_t begun; /* its windows that have been begun, warm-up and this turn's included */
+    struct lyapunov_refusal refusal;   /* of an unfit turn, or of the run that is over */
+    struct lyapunov_estimate estimate; /* of the run that is over; else all zero */
+};
+
 /* A row of a finished measured window. Each of the two lists has top_k exponents. */
 struct lyapunov_row {
     double end_time;
@@ -661,7 +793,8 @@ static inline struct lyapunov_const_slice lyapunov_handed_const(
     return slice.at == NULL ? lyapunov_lent_const(nothing, 0) : slice;
 }
 
-/* For the functions below: what a run is handed as pointers, and its counts and times. */
+/* For the functions below: what a run is handed as pointers, and its counts and times. These start
+ * as zeros, since a turn may leave them as they are. */
 struct lyapunov_run {
     double nothing;
     struct lyapunov_const_slice matrix, state;
@@ -674,12 +807,17 @@ static inline void lyapunov_begin_run(
     struct lyapunov_run *run, const struct lyapunov_system *system,
     struct lyapunov_const_slice state, const struct lyapunov_outputs *outputs)
 {
+    size_t i;
     run->nothing = 0.0;
     run->matrix = lyapunov_handed_const(system->matrix, &run->nothing);
     run->state = lyapunov_handed_const(state, &run->nothing);
     run->rows = lyapunov_handed(outputs->rows, &run->nothing);
     run->exponents = lyapunov_handed(outputs->exponents, &run->nothing);
     run->final_state = lyapunov_handed(outputs->final_state, &run->nothing);
+    for (i = 0; i < LYAPUNOV_COUNTS; i++)
+        run->counts[i] = 0;
+    for (i = 0; i < LYAPUNOV_TIMES; i++)
+        run->times[i] = 0.0;
 }
 
 static inline struct lyapunov_estimate lyapunov_end_run(
@@ -717,18 +855,23 @@ static inline struct lyapunov_refusal lyapunov_validate_run(
     return refusal;
 }
 
-/* For the functions below: the arguments of a run up to its matrix, and from its state on. */
+/* For the functions below: the arguments of a run up to its matrix, and from its state on, with
+ * their parts. */
 #define LYAPUNOV_SYSTEM_ARGUMENTS(system, run) \
-    (system)->kind, (system)->p0, (system)->p1, (system)->p2, (system)->dimension, \
-        (run).matrix.at, (run).matrix.length
+    LYAPUNOV_KIND_ARGUMENTS(system), (run).matrix.at, (run).matrix.length
+#define LYAPUNOV_KIND_ARGUMENTS(system) \
+    (system)->kind, (system)->p0, (system)->p1, (system)->p2, (system)->dimension
 #define LYAPUNOV_RUN_ARGUMENTS(settings, run) \
+    LYAPUNOV_START_ARGUMENTS(settings, run), LYAPUNOV_OUTPUT_ARGUMENTS(run)
+#define LYAPUNOV_START_ARGUMENTS(settings, run) \
     (run).state.at, (run).state.length, \
         (settings)->required.top_k, (settings)->required.step_size, \
         (settings)->required.steps_per_window, (settings)->required.windows, \
-        (settings)->transient_windows, (settings)->seed, LYAPUNOV_OUTPUT_ARGUMENTS(run)
-#define LYAPUNOV_OUTPUT_ARGUMENTS(run) \
+        (settings)->transient_windows, (settings)->seed
+#define LYAPUNOV_OUTPUT_ARGUMENTS(run) LYAPUNOV_SLICE_ARGUMENTS(run), (run).counts, (run).times
+#define LYAPUNOV_SLICE_ARGUMENTS(run) \
     (run).rows.at, (run).rows.length, (run).exponents.at, (run).exponents.length, \
-        (run).final_state.at, (run).final_state.length, (run).counts, (run).times
+        (run).final_state.at, (run).final_state.length
 
 /* A run from a start time: lyapunov_estimate_spectrum_at. */
 static inline struct lyapunov_estimate lyapunov_spectrum_at(
@@ -799,10 +942,6 @@ static inline struct lyapunov_estimate lyapunov_store_go_on(
         LYAPUNOV_SYSTEM_ARGUMENTS(system, run), time, LYAPUNOV_RUN_ARGUMENTS(settings, run)));
 }
 
-#undef LYAPUNOV_SYSTEM_ARGUMENTS
-#undef LYAPUNOV_RUN_ARGUMENTS
-#undef LYAPUNOV_OUTPUT_ARGUMENTS
-
 /* Forgets what is kept under a number: lyapunov_forget. */
 static inline struct lyapunov_refusal lyapunov_store_forget(
     struct lyapunov_store *store, uint8_t number)
@@ -812,6 +951,66 @@ static inline struct lyapunov_refusal lyapunov_store_forget(
     refusal.place = 0;
     return refusal;
 }
+
+/* Makes a dispatcher without runs: lyapunov_empty_dispatcher. */
+static inline void lyapunov_dispatcher_empty(struct lyapunov_dispatcher *dispatcher)
+{
+    lyapunov_empty_dispatcher(dispatcher->queue);
+}
+
+/* Whose turn is next: lyapunov_next. */
+static inline uint64_t lyapunov_dispatcher_next(const struct lyapunov_dispatcher *dispatcher)
+{
+    return lyapunov_next(dispatcher->queue);
+}
+
+/* Hands a run in from a start time: lyapunov_hand_in. The matrix of the system is not read. */
+static inline struct lyapunov_admission lyapunov_dispatcher_hand_in(
+    struct lyapunov_dispatcher *dispatcher,
+    const struct lyapunov_system *system, double time, struct lyapunov_const_slice state,
+    const struct lyapunov_settings *settings)
+{
+    const struct lyapunov_outputs none = lyapunov_no_outputs();
+    struct lyapunov_run run;
+    struct lyapunov_admission admission;
+    lyapunov_begin_run(&run, system, state, &none);
+    admission.refusal.number = lyapunov_hand_in(
+        dispatcher->floats, dispatcher->counts, dispatcher->settings, dispatcher->queue,
+        LYAPUNOV_KIND_ARGUMENTS(system), time, LYAPUNOV_START_ARGUMENTS(settings, run),
+        &admission.name, &admission.refusal.place);
+    return admission;
+}
+
+/* Makes a window of the run whose turn it is: lyapunov_turn. Of its system only the matrix is
+ * lent. */
+static inline struct lyapunov_turn_taken lyapunov_dispatcher_turn(
+    struct lyapunov_dispatcher *dispatcher, const struct lyapunov_system *system,
+    const struct lyapunov_outputs *outputs)
+{
+    struct lyapunov_run run;
+    struct lyapunov_turn_taken turn;
+    uint64_t event[LYAPUNOV_EVENTS];
+    int over;
+    lyapunov_begin_run(&run, system, lyapunov_lent_const(NULL, 0), outputs);
+    turn.refusal.number = lyapunov_turn(
+        dispatcher->floats, dispatcher->counts, dispatcher->settings, dispatcher->queue,
+        run.matrix.at, run.matrix.length, LYAPUNOV_SLICE_ARGUMENTS(run), event,
+        run.counts, run.times);
+    turn.stage = event[LYAPUNOV_EVENT_STAGE];
+    turn.name = event[LYAPUNOV_EVENT_NAME];
+    turn.begun = event[LYAPUNOV_EVENT_BEGUN];
+    over = turn.stage == LYAPUNOV_STAGE_OVER;
+    turn.estimate = lyapunov_end_run(&run, over ? turn.refusal.number : 0);
+    turn.refusal.place = over ? turn.estimate.refusal.place : event[LYAPUNOV_EVENT_PLACE];
+    return turn;
+}
+
+#undef LYAPUNOV_SYSTEM_ARGUMENTS
+#undef LYAPUNOV_KIND_ARGUMENTS
+#undef LYAPUNOV_RUN_ARGUMENTS
+#undef LYAPUNOV_START_ARGUMENTS
+#undef LYAPUNOV_OUTPUT_ARGUMENTS
+#undef LYAPUNOV_SLICE_ARGUMENTS
 
 /* One step of the state and of `count` directions: lyapunov_step. */
 static inline struct lyapunov_refusal lyapunov_step_system(
@@ -863,6 +1062,7 @@ static inline const char *lyapunov_refusal_text(uint64_t number)
         "The ring has fewer than 4 cells.",
         "No state is kept under the number.",
         "Eight other numbers are kept.",
+        "Eight runs are unfinished.",
     };
     const uint64_t known = sizeof texts / sizeof *texts;
     return number < known ? texts[number] : "No refusal has this number.";

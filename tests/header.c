@@ -1,14 +1,15 @@
 /*
  * The structs of the header: what they answer equals what the exported functions answer, to the
- * bit, on several systems; the builder's defaults and refusals; slices at NULL; kept states; every
- * refusal's text. It is compiled as C99 and as C++11. Exit status 0, or 1 where something differs.
+ * bit, on several systems; the builder's defaults and refusals; slices at NULL; kept states; runs
+ * side by side; every refusal's text. It is compiled as C99 and as C++11. Exit status 0, or 1 where
+ * something differs.
  */
 #include "lyapunov.h"
 
 #include <stdio.h>
 #include <string.h>
 
-enum { MOST = 16, WINDOWS = 4, MOST_ROWS = WINDOWS * (1 + 2 * MOST) };
+enum { MOST = 16, WINDOWS = 4, MOST_TRANSIENT = 5, MOST_ROWS = WINDOWS * (1 + 2 * MOST) };
 
 static size_t checks = 0, failures = 0;
 
@@ -81,13 +82,14 @@ static void note(struct left *left, struct lyapunov_estimate estimate)
 }
 
 /* The arguments of a trial's system, settings and outputs, one after the other. */
-#define SYSTEM_OF(t) \
-    (t)->kind, (t)->p[0], (t)->p[1], (t)->p[2], (t)->dimension, (t)->matrix, (t)->matrix_len
+#define SYSTEM_OF(t) KIND_OF(t), MATRIX_OF(t)
+#define KIND_OF(t) (t)->kind, (t)->p[0], (t)->p[1], (t)->p[2], (t)->dimension
+#define MATRIX_OF(t) (t)->matrix, (t)->matrix_len
 #define SETTINGS_OF(t, windows) \
     (t)->dimension, 0.0625, (t)->steps, (windows), (t)->transient_windows, (t)->seed
-#define OUTPUTS_OF(l, k, d) \
-    (l)->rows, LYAPUNOV_ROWS_LENGTH(k, WINDOWS), (l)->exponents, (k), (l)->final_state, (d), \
-        (l)->counts, (l)->times
+#define OUTPUTS_OF(l, k, d) SLICES_OF(l, k, d), (l)->counts, (l)->times
+#define SLICES_OF(l, k, d) \
+    (l)->rows, LYAPUNOV_ROWS_LENGTH(k, WINDOWS), (l)->exponents, (k), (l)->final_state, (d)
 
 static void same(const struct left *a, const struct left *b, const char *what, const char *which)
 {
@@ -246,10 +248,12 @@ static void empty(const struct trial *t)
     check(refusal.number == 13 && refusal.place == 0, "no rows", t->name);
 }
 
-/* A store with memory around it, which no call may write. */
+/* A store and a dispatcher with memory around them, which no call may write. */
 struct guarded {
     uint64_t before[2];
     struct lyapunov_store store;
+    uint64_t between[2];
+    struct lyapunov_dispatcher dispatcher;
     uint64_t behind[2];
 };
 
@@ -257,6 +261,7 @@ static void emptied(struct guarded *guarded)
 {
     memset(guarded, 0x5a, sizeof *guarded);
     lyapunov_store_empty(&guarded->store);
+    lyapunov_dispatcher_empty(&guarded->dispatcher);
 }
 
 static void guards(const struct guarded *guarded, const char *which)
@@ -264,7 +269,8 @@ static void guards(const struct guarded *guarded, const char *which)
     uint64_t around[2];
     memset(around, 0x5a, sizeof around);
     check(memcmp(guarded->before, around, sizeof around) == 0, "before the store", which);
-    check(memcmp(guarded->behind, around, sizeof around) == 0, "behind the store", which);
+    check(memcmp(guarded->between, around, sizeof around) == 0, "behind the store", which);
+    check(memcmp(guarded->behind, around, sizeof around) == 0, "behind the dispatcher", which);
 }
 
 /* A keep of the first window, by structs and by flat arguments. */
@@ -325,6 +331,120 @@ static void gone_on(const struct trial *t)
     check(left[0].number == 13 && left[0].counts[LYAPUNOV_PLACE] == 0, "a short row", t->name);
 }
 
+/* Trials side by side, by their names, in both ways. */
+struct beside {
+    const struct trial *trial;
+    struct left left[2];
+    struct lyapunov_outputs outputs;
+    uint64_t turns;
+};
+
+#define DISPATCHER_OF(g) \
+    (g)->dispatcher.floats, (g)->dispatcher.counts, (g)->dispatcher.settings, (g)->dispatcher.queue
+
+static void handed_in(const struct trial *t, uint64_t name, struct guarded *by_struct,
+                      struct guarded *flat)
+{
+    const struct lyapunov_settings settings = settings_of(t);
+    const struct lyapunov_admission admission = lyapunov_dispatcher_hand_in(
+        &by_struct->dispatcher, &t->system, 2.5, lyapunov_lent_const(t->state, t->dimension),
+        &settings);
+    uint64_t named = 77, place = 77;
+    const uint64_t number = lyapunov_hand_in(
+        DISPATCHER_OF(flat), KIND_OF(t), 2.5, t->state, t->dimension, SETTINGS_OF(t, WINDOWS),
+        &named, &place);
+
+    check(number == 0 && place == 0 && named == name, "handed in by flat arguments", t->name);
+    check(admission.refusal.number == 0 && admission.refusal.place == 0
+              && admission.name == name, "handed in by structs", t->name);
+}
+
+/* Nothing is told of a run that is not over. */
+static void nothing_told(struct lyapunov_estimate estimate, const char *which)
+{
+    struct left told, nothing;
+    memset(&told, 0, sizeof told);
+    memset(&nothing, 0, sizeof nothing);
+    note(&told, estimate);
+    same(&told, &nothing, "an estimate of zeros", which);
+}
+
+/* The run has what it has alone, once it is over. */
+static void same_as_alone(const struct trial *t, struct left left[2])
+{
+    const size_t d = t->dimension;
+    struct left alone;
+    lent(&alone, d, d);
+    alone.number = lyapunov_estimate_spectrum_at(
+        SYSTEM_OF(t), 2.5, t->state, d, SETTINGS_OF(t, WINDOWS), OUTPUTS_OF(&alone, d, d));
+    same(&left[0], &alone, "turns by structs", t->name);
+    same(&left[1], &alone, "turns by flat arguments", t->name);
+}
+
+/* A turn in both ways; 1 where its run is over. */
+static int taken(struct beside *run, uint64_t name, struct guarded *by_struct, struct guarded *flat)
+{
+    const struct trial *t = run->trial;
+    const struct lyapunov_turn_taken turn = lyapunov_dispatcher_turn(
+        &by_struct->dispatcher, &t->system, &run->outputs);
+    const int over = turn.stage == LYAPUNOV_STAGE_OVER;
+    struct left before = run->left[1];
+    uint64_t event[LYAPUNOV_EVENTS];
+    const uint64_t number = lyapunov_turn(
+        DISPATCHER_OF(flat), MATRIX_OF(t), SLICES_OF(&run->left[1], t->dimension, t->dimension),
+        event, run->left[1].counts, run->left[1].times);
+
+    run->turns += 1;
+    check(turn.name == name && event[LYAPUNOV_EVENT_NAME] == name, "whose turn it is", t->name);
+    check(turn.begun == run->turns && event[LYAPUNOV_EVENT_BEGUN] == run->turns, "begun", t->name);
+    check(event[LYAPUNOV_EVENT_STAGE] == turn.stage, "the stage", t->name);
+    check(number == 0 && event[LYAPUNOV_EVENT_PLACE] == 0, "a turn that is not refused", t->name);
+    check(turn.refusal.number == 0 && turn.refusal.place == 0, "nor by structs", t->name);
+    if (over) {
+        note(&run->left[0], turn.estimate);
+        run->left[1].number = number;
+        same_as_alone(t, run->left);
+        return 1;
+    }
+    check(turn.stage == LYAPUNOV_STAGE_UNDER_WAY, "under way", t->name);
+    nothing_told(turn.estimate, t->name);
+    memcpy(before.rows, run->left[1].rows, sizeof before.rows);
+    same(&run->left[1], &before, "rows alone are written while under way", t->name);
+    return 0;
+}
+
+/* All trials, round by round, until each has made its windows and is over. */
+static void side_by_side(const struct trial *trials, size_t count)
+{
+    static struct guarded by_struct, flat;
+    static struct beside runs[LYAPUNOV_DISPATCHER_RUNS];
+    uint64_t name, round;
+    size_t i, d, left = count;
+
+    emptied(&by_struct);
+    emptied(&flat);
+    for (i = 0; i < count; i++) {
+        d = trials[i].dimension;
+        runs[i].trial = &trials[i];
+        runs[i].turns = 0;
+        lent(&runs[i].left[1], d, d);
+        runs[i].outputs = lent(&runs[i].left[0], d, d);
+        handed_in(&trials[i], i, &by_struct, &flat);
+    }
+    for (round = 1; round <= MOST_TRANSIENT + WINDOWS; round++)
+        for (i = 0; i < count; i++) {
+            if (round > trials[i].transient_windows + WINDOWS) continue;
+            name = lyapunov_dispatcher_next(&by_struct.dispatcher);
+            check(name == i && lyapunov_next(flat.dispatcher.queue) == i, "next", trials[i].name);
+            left -= (size_t)taken(&runs[i], i, &by_struct, &flat);
+            check(runs[i].turns == round, "one turn a round", trials[i].name);
+        }
+    check(left == 0, "each is over", "turns");
+    check(lyapunov_dispatcher_next(&by_struct.dispatcher) == LYAPUNOV_NOBODY, "nobody", "turns");
+    check(memcmp(&by_struct, &flat, sizeof flat) == 0, "the same dispatcher", "turns");
+    guards(&by_struct, "turns");
+}
+
 static void systems(void)
 {
     static const double turning[9] = {-0.5, 1.0, 0.0, -1.0, 0.25, 0.125, 0.0, -2.0, 0.75};
@@ -355,6 +475,7 @@ static void systems(void)
         empty(&trials[i]);
         gone_on(&trials[i]);
     }
+    side_by_side(trials, i);
 }
 
 /* Keeps a Lorenz run of one window, or goes on from it, with these settings. */
@@ -463,6 +584,156 @@ static void stores(void)
     any_content(settings);
 }
 
+/* Hands in a linear run of two windows, of dimension 2, with so many directions. */
+static struct lyapunov_admission linear_in(struct lyapunov_dispatcher *dispatcher, size_t top_k)
+{
+    static const double start[2] = {0.0, 1e275};
+    struct lyapunov_required_settings needed = required(top_k, 0.0625, 1);
+    const struct lyapunov_system system = lyapunov_linear(2, lyapunov_lent_const(NULL, 0));
+    struct lyapunov_settings settings;
+
+    needed.windows = 2;
+    settings = lyapunov_build_settings(&needed).settings;
+    return lyapunov_dispatcher_hand_in(
+        dispatcher, &system, 0.0, lyapunov_lent_const(start, 2), &settings);
+}
+
+static int admits(struct lyapunov_dispatcher *dispatcher, uint64_t name)
+{
+    const struct lyapunov_admission admission = linear_in(dispatcher, 2);
+    return admission.refusal.number == 0 && admission.refusal.place == 0 && admission.name == name;
+}
+
+static int denies(struct lyapunov_dispatcher *dispatcher, size_t top_k, uint64_t number)
+{
+    const struct lyapunov_admission admission = linear_in(dispatcher, top_k);
+    return admission.refusal.number == number && admission.refusal.place == 0
+           && admission.name == LYAPUNOV_NOBODY;
+}
+
+/* A turn of the run in front with a matrix of so many entries and so many exponents, in which the
+ * second entry of the state grows by the rate. It becomes infinite, and it alone, by 1e10. */
+static struct lyapunov_turn_taken linear_turn(struct lyapunov_dispatcher *dispatcher,
+                                              size_t matrix_len, size_t exponents_len, double rate)
+{
+    const double matrix[4] = {0.0, 0.0, 0.0, rate};
+    const struct lyapunov_system system =
+        lyapunov_linear(2, lyapunov_lent_const(matrix, matrix_len));
+    struct left left;
+    struct lyapunov_outputs outputs = lent(&left, 2, 2);
+
+    outputs.exponents.length = exponents_len;
+    return lyapunov_dispatcher_turn(dispatcher, &system, &outputs);
+}
+
+/* Whether a turn is not spent, and changes nothing. */
+static int is_idle(struct lyapunov_dispatcher *dispatcher, size_t matrix_len, size_t exponents_len,
+                   uint64_t stage, uint64_t name, uint64_t begun, uint64_t number, uint64_t place)
+{
+    const struct lyapunov_dispatcher before = *dispatcher;
+    const struct lyapunov_turn_taken turn =
+        linear_turn(dispatcher, matrix_len, exponents_len, 1.0);
+    nothing_told(turn.estimate, "dispatcher");
+    return turn.stage == stage && turn.name == name && turn.begun == begun
+           && turn.refusal.number == number && turn.refusal.place == place
+           && memcmp(&before, dispatcher, sizeof before) == 0;
+}
+
+/* Whether a turn is that of the run of this name, over after so many windows and refused so. */
+static int ends(struct lyapunov_dispatcher *dispatcher, uint64_t name, double rate, uint64_t begun,
+                uint64_t number, uint64_t place)
+{
+    const struct lyapunov_turn_taken turn = linear_turn(dispatcher, 4, 2, rate);
+    return turn.stage == LYAPUNOV_STAGE_OVER && turn.name == name && turn.begun == begun
+           && turn.refusal.number == number && turn.refusal.place == place
+           && turn.estimate.refusal.number == number && turn.estimate.refusal.place == place
+           && turn.estimate.finished_windows == (number == 0 ? begun : begun - 1);
+}
+
+/* Eight runs, of which the second is refused in its first window and its name given again. */
+static void eight_runs(struct lyapunov_dispatcher *dispatcher)
+{
+    struct lyapunov_dispatcher copy;
+    uint64_t i;
+
+    check(is_idle(dispatcher, 4, 2, LYAPUNOV_STAGE_NOBODY, LYAPUNOV_NOBODY, 0, 0, 0),
+          "a turn of nobody", "dispatcher");
+    for (i = 0; i < 8; i++)
+        check(admits(dispatcher, i) && lyapunov_dispatcher_next(dispatcher) == 0, "a run",
+              "dispatcher");
+    copy = *dispatcher;
+    check(denies(dispatcher, 0, 28) && denies(dispatcher, 2, 28), "a ninth run", "dispatcher");
+    check(memcmp(&copy, dispatcher, sizeof copy) == 0, "it is not taken", "dispatcher");
+    check(is_idle(dispatcher, 0, 0, LYAPUNOV_STAGE_UNFIT, 0, 0, 9, 0), "no matrix", "dispatcher");
+    check(is_idle(dispatcher, 4, 1, LYAPUNOV_STAGE_UNFIT, 0, 0, 13, 1), "13", "dispatcher");
+    check(linear_turn(dispatcher, 4, 2, 1.0).stage == LYAPUNOV_STAGE_UNDER_WAY, "a turn",
+          "dispatcher");
+    check(ends(dispatcher, 1, 1e10, 1, 16, 1), "refused in its window", "dispatcher");
+    check(denies(dispatcher, 0, 1) && denies(dispatcher, 3, 12), "refused", "dispatcher");
+    check(admits(dispatcher, 1), "the free name", "dispatcher");
+    for (i = 2; i < 8; i++)
+        check(linear_turn(dispatcher, 4, 2, 1.0).name == i, "the others", "dispatcher");
+    check(is_idle(dispatcher, 4, 0, LYAPUNOV_STAGE_UNFIT, 0, 1, 13, 1), "13 later", "dispatcher");
+    check(ends(dispatcher, 0, 1.0, 2, 0, 0), "the end of the first", "dispatcher");
+    check(linear_turn(dispatcher, 4, 2, 1.0).name == 1, "the new one", "dispatcher");
+    for (i = 2; i < 8; i++)
+        check(ends(dispatcher, i, 1.0, 2, 0, 0), "the ends of the others", "dispatcher");
+    check(ends(dispatcher, 1, 1.0, 2, 0, 0), "the end of the new one", "dispatcher");
+    check(linear_turn(&copy, 4, 2, 1.0).name == 0 && linear_turn(&copy, 4, 2, 1.0).name == 1,
+          "a copy has its own runs", "dispatcher");
+}
+
+/* Whatever the dispatcher holds, every call ends and writes nothing around it. */
+static void any_dispatcher(void)
+{
+    static const unsigned char bytes[] = {0x00, 0x01, 0x40, 0x7f, 0xff};
+    static struct guarded guarded;
+    struct lyapunov_dispatcher *dispatcher = &guarded.dispatcher;
+    size_t i, turns;
+
+    for (i = 0; i < 2 * sizeof bytes; i++) {
+        emptied(&guarded);
+        check(admits(dispatcher, 0), "a run", "any content");
+        memset(dispatcher->floats, bytes[i / 2], sizeof dispatcher->floats);
+        memset(dispatcher->counts, bytes[i / 2], sizeof dispatcher->counts);
+        memset(dispatcher->settings, bytes[i / 2], sizeof dispatcher->settings);
+        if (i % 2 == 1) memset(dispatcher->queue, bytes[i / 2], sizeof dispatcher->queue);
+        for (turns = 0; turns < 20; turns++) {
+            check(lyapunov_dispatcher_next(dispatcher) <= LYAPUNOV_NOBODY, "a name", "any content");
+            check(linear_turn(dispatcher, 4, 2, 1.0).stage <= LYAPUNOV_STAGE_OVER, "a stage",
+                  "any content");
+            check(linear_in(dispatcher, 2).name <= LYAPUNOV_NOBODY, "a run", "any content");
+        }
+        guards(&guarded, "any content");
+    }
+}
+
+static void dispatchers(void)
+{
+    static struct guarded guarded;
+    struct lyapunov_dispatcher *dispatcher = &guarded.dispatcher;
+    const struct lyapunov_system lorenz = lyapunov_lorenz(10.0, 28.0, 8.0 / 3.0);
+    const struct lyapunov_required_settings needed = required(3, 0.0625, 1);
+    const struct lyapunov_settings settings = lyapunov_build_settings(&needed).settings;
+    struct lyapunov_refusal refusal;
+
+    check(LYAPUNOV_DISPATCHER_RUNS == 8 && LYAPUNOV_NOBODY == 8, "eight runs", "dispatcher");
+    check(sizeof dispatcher->floats == 2568 * sizeof(double), "floats", "dispatcher");
+    check(sizeof dispatcher->counts == 152 * sizeof(uint64_t), "counts", "dispatcher");
+    check(sizeof dispatcher->settings == 32 * sizeof(double), "settings", "dispatcher");
+    check(sizeof dispatcher->queue == 65 * sizeof(uint64_t), "queue", "dispatcher");
+    emptied(&guarded);
+    refusal = lyapunov_dispatcher_hand_in(
+        dispatcher, &lorenz, 0.0, lyapunov_lent_const(NULL, 3), &settings).refusal;
+    check(refusal.number == 10 && refusal.place == 0, "no start state", "dispatcher");
+    eight_runs(dispatcher);
+    check(admits(dispatcher, 0), "a run", "dispatcher");
+    lyapunov_dispatcher_empty(dispatcher);
+    check(lyapunov_dispatcher_next(dispatcher) == LYAPUNOV_NOBODY, "emptied", "dispatcher");
+    guards(&guarded, "dispatcher");
+    any_dispatcher();
+}
+
 /* The number of cells is tested before the state, which fits no ring. */
 static void cells_refused(size_t cells, uint64_t number)
 {
@@ -544,23 +815,24 @@ static void refused_settings(void)
 /* Each number has a sentence of its own. */
 static void texts(void)
 {
-    const char *unknown = lyapunov_refusal_text(28);
+    const char *unknown = lyapunov_refusal_text(29);
     uint64_t i, j;
-    for (i = 0; i <= 27; i++) {
+    for (i = 0; i <= 28; i++) {
         const char *text = lyapunov_refusal_text(i);
         check(strlen(text) > 10 && text[strlen(text) - 1] == '.', text, "a sentence");
         check(strcmp(text, unknown) != 0, text, "a known number");
         for (j = 0; j < i; j++)
             check(strcmp(text, lyapunov_refusal_text(j)) != 0, text, "another text");
     }
-    check(strcmp(unknown, "No refusal has this number.") == 0, unknown, "28");
+    check(strcmp(unknown, "No refusal has this number.") == 0, unknown, "29");
     check(lyapunov_refusal_text(UINT64_MAX) == unknown, unknown, "the largest number");
     check(strstr(lyapunov_refusal_text(14), "collapsed") != NULL, "collapse", "14");
     check(strstr(lyapunov_refusal_text(21), "256") != NULL, "rates", "21");
     check(strstr(lyapunov_refusal_text(24), "logarithm") != NULL, "logarithm", "24");
     check(strstr(lyapunov_refusal_text(25), "cells") != NULL, "cells", "25");
     check(strstr(lyapunov_refusal_text(26), "No state") != NULL, "no such number", "26");
-    check(strstr(lyapunov_refusal_text(27), "Eight") != NULL, "eight others", "27");
+    check(strstr(lyapunov_refusal_text(27), "Eight other") != NULL, "eight others", "27");
+    check(strstr(lyapunov_refusal_text(28), "unfinished") != NULL, "eight runs", "28");
 }
 
 int main(void)
@@ -568,6 +840,7 @@ int main(void)
     systems();
     cells();
     stores();
+    dispatchers();
     builder();
     refused_settings();
     texts();

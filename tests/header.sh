@@ -33,14 +33,17 @@ diff "$work/positional" "$work/structs"
 [ "$(grep -c '^rate [0-9a-f]\{16\}$' "$work/structs")" -eq 6 ]
 echo "the Lorenz programs with and without structs print the same bits"
 
-continuations() { # INCLUDE: what the continuations print
-    c99 "$1" examples/continuations.c continuations
-    "$work/continuations"
+others() { # INCLUDE: what the other examples print
+    local example
+    for example in continuations circuits; do
+        c99 "$1" examples/$example.c $example
+        "$work/$example"
+    done
 }
-continuations include >"$work/continued"
+others include >"$work/others"
 
-# A later version: a setting, an output, a count, a parameter and an entry of the store more, in front
-# of the others.
+# A later version: a setting, an output, a count, a parameter, an entry of the store and of the
+# dispatcher, and a field of what this one answers more, in front of the others.
 mkdir "$work/later"
 sed -e 's/^struct lyapunov_settings {/&\n    double later;/' \
     -e 's/^    built.settings.required = .*/&\n    built.settings.later = 1.0;/' \
@@ -49,13 +52,16 @@ sed -e 's/^struct lyapunov_settings {/&\n    double later;/' \
     -e 's/^struct lyapunov_estimate {/&\n    uint64_t later;/' \
     -e 's/^    estimate.refusal.number = .*/&\n    estimate.later = 1;/' \
     -e 's/^struct lyapunov_system {/&\n    double later;/' \
-    -e 's/^struct lyapunov_store {/&\n    double later;/' \
+    -e 's/^struct lyapunov_\(store\|dispatcher\) {/&\n    double later;/' \
+    -e 's/^struct lyapunov_\(admission\|turn_taken\) {/&\n    uint64_t later;/' \
+    -e 's/^    admission.refusal.number = /    admission.later = 1;\n&/' \
+    -e 's/^    turn.refusal.number = /    turn.later = 1;\n&/' \
     -e 's/^    system.p2 = .*/&\n    system.later = 1.0;/' include/lyapunov.h >"$work/later/lyapunov.h"
-[ "$(grep -c later "$work/later/lyapunov.h")" -eq "$(($(grep -c later include/lyapunov.h) + 9))" ]
+[ "$(grep -c later "$work/later/lyapunov.h")" -eq "$(($(grep -c later include/lyapunov.h) + 14))" ]
 structs "$work/later"
 lorenz "$work/later" examples/lorenz.c | diff "$work/structs" -
 lorenz "$work/later" tests/lorenz_positional.c | diff "$work/structs" -
-continuations "$work/later" | diff "$work/continued" -
+others "$work/later" | diff "$work/others" -
 echo "so they do with a later header, which has more fields"
 
 # Wrong headers, each of which tests/header.c must notice.
@@ -64,7 +70,7 @@ wrong() { # EDIT
     mkdir -p "$work/wrong"
     sed -E -e "$1" include/lyapunov.h >"$work/wrong/lyapunov.h"
     ! cmp -s include/lyapunov.h "$work/wrong/lyapunov.h" || { echo "nothing to plant by $1"; exit 1; }
-    c99 "$work/wrong" tests/header.c wrong_header
+    c99 "$work/wrong" tests/header.c wrong_header -O0
     ! "$work/wrong_header" >"$work/out" || { echo "NOT NOTICED: $1"; exit 1; }
     noticed=$((noticed + 1))
 }
@@ -108,4 +114,30 @@ wrong 's/\(run\)\.rows\.length/(run).rows.length + 1/'
 wrong 's/^    refusal\.place = 0;/    refusal.place = number;/'
 wrong 's/"No state is kept under the number\."/"Eight other numbers are kept."/'
 wrong 's/^ *"Eight other numbers are kept\.",//'
+for name in RUNS FLOATS COUNTS SETTINGS QUEUE; do
+    for off in '+ 1' '- 1'; do wrong "s/^(#define LYAPUNOV_DISPATCHER_$name) ([0-9]+)/\1 (\2 $off)/"; done
+done
+for number in 7 9; do wrong "s/^(#define LYAPUNOV_NOBODY UINT64_C)\(8\)/\1($number)/"; done
+swapped() { # ENUMERATOR ENUMERATOR: each with the value of the other
+    wrong "s/^    $1 = ([0-9])/    swapped = \1/; s/^    $2 = ([0-9])/    $1 = \1/; s/^    swapped/    $2/"
+}
+for stages in 'NOBODY UNFIT' 'UNFIT UNDER_WAY' 'UNDER_WAY OVER'; do
+    swapped "LYAPUNOV_STAGE_${stages% *}" "LYAPUNOV_STAGE_${stages#* }"
+done
+for places in 'STAGE NAME' 'NAME BEGUN' 'BEGUN PLACE'; do
+    swapped "LYAPUNOV_EVENT_${places% *}" "LYAPUNOV_EVENT_${places#* }"
+done
+wrong 's/^    lyapunov_empty_dispatcher\(dispatcher->queue\)/    dispatcher->queue[0] = 0/'
+wrong 's/^    return lyapunov_next\(dispatcher->queue\)/& % LYAPUNOV_NOBODY/'
+wrong 's/LYAPUNOV_KIND_ARGUMENTS\(system\), time/LYAPUNOV_KIND_ARGUMENTS(system), time + 1.0/'
+wrong 's/&admission\.name, &admission\.refusal\.place/\&admission.refusal.place, \&admission.name/'
+wrong 's/run\.matrix\.at, run\.matrix\.length, LYAPUNOV_SLICE/run.matrix.at, 0, LYAPUNOV_SLICE/'
+wrong 's/^    turn\.begun = .*/    turn.begun = turn.name;/'
+wrong 's/over \? turn\.refusal\.number : 0/turn.refusal.number/'
+wrong 's/over \? turn\.refusal\.number : 0/0/'
+wrong 's/over \? turn\.estimate\.refusal\.place : //'
+wrong 's/(over \? turn\.estimate\.refusal\.place : ).*;/\10;/'
+for name in counts times; do wrong "s/^        run->$name\[i\] = 0/        run->${name}[i] = 1/"; done
+wrong 's/"Eight runs are unfinished\."/"Eight other numbers are kept."/'
+wrong 's/^ *"Eight runs are unfinished\.",//'
 echo "$noticed wrong headers, each noticed"

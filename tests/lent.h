@@ -41,7 +41,7 @@ static uint64_t entry_before(const lent *l, size_t i) {
     return word_at(l, 2 * BORDER + l->length + i);
 }
 
-static void set_entry(lent *l, size_t i, uint64_t bits) {
+static void set_entry(const lent *l, size_t i, uint64_t bits) {
     memcpy(l->block + 8 * (BORDER + i), &bits, 8);
     memcpy(l->block + 8 * (2 * BORDER + l->length + i), &bits, 8);
 }

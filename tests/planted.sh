@@ -407,6 +407,133 @@ wrong "$from_kept" 'state changed' 'lyapunov_go_on: memory of the input x0 was w
 wrong "$from_kept" 'counts kept' 'lyapunov_go_on: place: '
 wrong "$from_kept" 'times kept' 'lyapunov_go_on: ftime, entry 0: '
 
+# Several circuits: all calls of the list's dispatcher, one of them changed, or with a wrong library.
+dispatched=$(grep -E '^(dispatcher|hand-in|next|turn) ' tests/answers.txt) || fail 'no dispatcher'
+
+called() { # PATTERN EDIT MESSAGE: the first call that matches, changed
+    edited "$dispatched" "0,/$1/ { /$1/ $2 }" "$3"
+}
+
+mistaken() { # WRONG MESSAGE
+    wrong "$dispatched" "$1" "$2"
+}
+
+taken='^hand-in .*num=0 ' not_taken='^hand-in .*num=[1-9]'
+nobody='^turn .*stage=nobody ' unfit='^turn .*stage=unfit '
+under_way="^turn .*stage=under-way .* rows=$x.*,\\. exps=\\." over='^turn .*stage=over '
+ended="$over.*num=0 " broken="$over.*num=1[4678] "
+
+# Answers.
+for name in num place name; do
+    called "$taken" "s/(-> .*$name=)([0-9]+)/\19\2/" "lyapunov_hand_in: $name"
+    called "$not_taken" "s/(-> .*$name=)([0-9]+)/\19\2/" "lyapunov_hand_in: $name"
+done
+called '^next .*name=[0-7]' 's/name=[0-7]/name=8/' 'lyapunov_next: name, entry 0: '
+called '^next .*name=8' 's/name=8/name=0/' 'lyapunov_next: name, entry 0: 8, listed 0'
+called "$nobody" 's/stage=nobody/stage=unfit/' 'lyapunov_turn: stage, entry 0: 0, listed 1'
+called "$unfit" 's/stage=unfit/stage=nobody/' 'lyapunov_turn: stage, entry 0: 1, listed 0'
+called "$unfit" 's/stage=unfit/stage=under-way/' 'lyapunov_turn: stage, entry 0: 1, listed 2'
+called "$under_way" 's/stage=under-way/stage=over/' 'lyapunov_turn: stage, entry 0: 2, listed 3'
+called "$over" 's/stage=over/stage=under-way/' 'lyapunov_turn: stage, entry 0: 3, listed 2'
+for stage in "$nobody" "$unfit" "$under_way" "$ended" "$broken"; do
+    for name in name begun num place; do
+        called "$stage" "s/( $name=)([0-9]+)/\19\2/" "lyapunov_turn: $name"
+    done
+done
+for name in finished made faint; do
+    called "$ended" "s/( $name=)([0-9]+)/\19\2/" "lyapunov_turn: $name, entry 0: "
+    called "$broken" "s/( $name=)([0-9]+)/\19\2/" "lyapunov_turn: $name, entry 0: "
+done
+for name in finished made faint ftime mtime; do
+    for stage in "$nobody" "$unfit" "$under_way"; do
+        called "$stage" "s/( $name=)-/\10000000000000000/" "lyapunov_turn: $name: not told, listed 0000"
+    done
+done
+for name in ftime mtime; do
+    called "$ended" "s/( $name=)$x/\1-/" "lyapunov_turn: $name, entry 0: "
+    called "$broken" "s/( $name=)-/\13ff0000000000000/" "lyapunov_turn: $name, entry 0: 0000"
+done
+for name in rows exps final; do
+    called "$ended" "s/( $name=)$x/\17ff8000000000000/" "lyapunov_turn: $name, entry 0: "
+    called "$ended" "s/( $name=)$x/\1./" "lyapunov_turn: $name, entry 0: written"
+    called "$ended" "s/( $name=)/\10000000000000000,/" "lyapunov_turn: $name: "
+done
+for name in exps final; do
+    called "$under_way" "s/( $name=)\./\10000000000000000/" "lyapunov_turn: $name, entry 0: 5a5a5a5a5a5a5a5a"
+done
+called "$under_way" "s/( rows=)$x/\1./" 'lyapunov_turn: rows, entry 0: written'
+called "$under_way" 's/( rows=.*),\. exps/\1,0000000000000000 exps/' '5a5a5a5a5a5a5a5a, listed 0000'
+
+# Calls that do not read.
+called '^dispatcher' d 'malformed line 1: no empty dispatcher before: '
+edited "$dispatched" '/^(dispatcher|hand-in|turn)/ d' 'malformed line 1: no empty dispatcher before: '
+called '^dispatcher' 's/ ->/ set=1 ->/' 'malformed line 1: unknown field: set'
+called "$taken" 's/ K=[0-9]+//' ': field missing: K'
+called "$taken" 's/ ->/ mat=- ->/' ': unknown field: mat'
+called '^next' 's/ ->/ set=1 ->/' ': unknown field: set'
+called "$over" 's/stage=over/stage=done/' ': unknown stage: done'
+called '^turn' 's/ set=[0-9]+/ set=16/' ': no number of a set: 16'
+called '^turn' 's/ fresh=1/ fresh=2/' ': neither 0 nor 1: 2'
+called '^turn' 's/ fresh=1/ fresh=0/' ': no such set of outputs: '
+for name in rowslen expslen finallen; do
+    called '^turn .*fresh=0' "s/ ($name)=([0-9]+)/ \1=9\2/" ': no such set of outputs: '
+done
+
+# Libraries that take turns or name runs otherwise.
+mistaken 'turn goes to the front' 'lyapunov_next: name, entry 0: '
+mistaken 'turn goes to the front' 'lyapunov_turn: name, entry 0: '
+mistaken 'new run in front' 'lyapunov_next: name, entry 0: '
+mistaken 'new run in front' 'lyapunov_turn: name, entry 0: '
+mistaken 'nobody as 0' 'lyapunov_next: name, entry 0: 0, listed 8'
+mistaken 'unfit turn is spent' 'lyapunov_turn: run_'
+mistaken 'name by count' 'lyapunov_hand_in: name, entry 0: '
+mistaken 'finished run keeps its name' 'lyapunov_hand_in: name, entry 0: '
+mistaken 'refused run ends all' 'lyapunov_turn: stage, entry 0: 0, listed '
+mistaken '28 after settings' ', listed 28'
+mistaken '28 left out' 'lyapunov_hand_in: num, entry 0: 0, listed 28'
+mistaken '9 on handing in' 'lyapunov_hand_in: num, entry 0: 9, listed 0'
+
+# Libraries that tell or write otherwise.
+mistaken 'begun one less' 'lyapunov_turn: begun, entry 0: 0, listed 1'
+mistaken 'row at place 0' 'lyapunov_turn: rows, entry 0: '
+mistaken 'place of an end in the event' 'lyapunov_turn: place of the event, entry 0: 1, listed 0'
+for name in counts times; do
+    mistaken "$name while under way" "lyapunov_turn: $name, entry 0: changed, and must stay"
+done
+mistaken 'exponents while under way' 'lyapunov_turn: exps, entry 0: written'
+mistaken 'final_state while under way' 'lyapunov_turn: final, entry 0: written'
+for name in run_floats run_counts run_settings queue; do
+    mistaken "refused hand-in changes $name" "lyapunov_hand_in: $name, entry "
+    mistaken "$name kept" 'lyapunov_turn: '
+done
+for name in run_floats run_counts queue; do
+    mistaken "unfit turn changes $name" "lyapunov_turn: $name, entry "
+    mistaken "nobody's turn changes $name" "lyapunov_turn: $name, entry "
+done
+mistaken 'run_settings changed' 'lyapunov_turn: memory of the input run_settings was written'
+mistaken 'next changes queue' 'lyapunov_next: queue, entry '
+mistaken 'queue kept' 'lyapunov_empty_dispatcher: queue, entry 0: '
+mistaken 'state changed' 'lyapunov_hand_in: memory of the input x0 was written'
+mistaken 'matrix changed' 'lyapunov_turn: memory of the input mat was written'
+mistaken 'name kept' 'lyapunov_hand_in: name, entry 0: '
+mistaken 'place kept' 'lyapunov_hand_in: place: '
+mistaken 'event kept' 'lyapunov_turn: stage, entry 0: '
+mistaken 'counts kept' 'lyapunov_turn: place: '
+mistaken 'times kept' 'lyapunov_turn: ftime, entry 0: '
+for slice in rows:rows exponents:exps final_state:final; do
+    mistaken "${slice%:*} kept" "lyapunov_turn: ${slice#*:}, entry 0: 5a5a5a5a5a5a5a5a"
+done
+for where in before behind; do
+    mistaken "queue $where" "lyapunov_empty_dispatcher: memory $where queue was written"
+    mistaken "queue $where" "lyapunov_next: memory $where queue was written"
+    for name in run_floats run_counts run_settings queue name place state:x0; do
+        mistaken "${name%:*} $where" "lyapunov_hand_in: memory $where ${name#*:} was written"
+    done
+    for name in run_floats run_counts run_settings queue matrix:mat rows exponents final_state event counts times; do
+        mistaken "${name%:*} $where" "lyapunov_turn: memory $where ${name#*:} was written"
+    done
+done
+
 # Programs: the right answer and then something else.
 stand_in() { # COMMAND MESSAGE: a program that runs the right one and then the command
     first '^prog .*out=refused_21' >"$list"

@@ -2,7 +2,7 @@
  * SPECTRUM is the program of that name, for the cases that are its input. The list says how its
  * lines read. A run from time 0 is asked of lyapunov_estimate_spectrum too, and of
  * lyapunov_estimate_largest where its settings are those that this sets. A list has one store of
- * kept states, which its lines change in their order.
+ * kept states and one dispatcher, which its lines change in their order.
  * Exit status: 0 every answer is met, 1 one is not, 2 the list or the usage is wrong. */
 #include <signal.h>
 #include <stdarg.h>
@@ -131,12 +131,12 @@ typedef struct {
     const lent *matrix;
 } circuit;
 
-/* A system's name ends in a colon where its dimension follows. */
+/* A circuit without its matrix. A system's name ends in a colon where its dimension follows. */
 static circuit read_circuit(void) {
     static const struct { const char *name; size_t parameters; } kinds[] = {
         {"lorenz", 3}, {"rossler", 3}, {"vdp", 1}, {"linear:", 0}, {"lorenz96:", 1}};
     const char *name = given("sys"), *at = given("par"), *colon = strchr(name, ':');
-    circuit c = {0, {0, 0, 0}, 0, lend_list("mat", INPUT)};
+    circuit c = {0, {0, 0, 0}, 0, NULL};
     size_t length = colon == NULL ? strlen(name) : (size_t)(colon + 1 - name);
     while (strlen(kinds[c.kind].name) != length || strncmp(name, kinds[c.kind].name, length) != 0)
         if (++c.kind == sizeof kinds / sizeof *kinds) malformed("unknown system", name);
@@ -149,15 +149,16 @@ static circuit read_circuit(void) {
     return c;
 }
 
-/* The arguments of a circuit, of a run from its start on, and of its outputs. */
-#define CIRCUIT_OF(c) \
-    (c).kind, (c).p[0], (c).p[1], (c).p[2], (c).dimension, doubles((c).matrix), (c).matrix->length
-#define RUN_OF(r, o) \
-    doubles((r)->start), (r)->start->length, (r)->top_k, (r)->step_size, (r)->steps, \
-        (r)->windows, (r)->warm_up, (r)->seed, OUTPUTS_OF(o)
-#define OUTPUTS_OF(o) \
-    doubles((o)->rows), (o)->rows->length, doubles((o)->exponents), (o)->exponents->length, \
-        doubles((o)->state), (o)->state->length, words((o)->counts), doubles((o)->times)
+/* The arguments of a circuit, of a run from its start on, and of its outputs, with their parts. */
+#define CIRCUIT_OF(c) KIND_OF(c), SLICE_OF((c).matrix)
+#define KIND_OF(c) (c).kind, (c).p[0], (c).p[1], (c).p[2], (c).dimension
+#define RUN_OF(r, o) START_OF(r), OUTPUTS_OF(o)
+#define START_OF(r) \
+    SLICE_OF((r)->start), (r)->top_k, (r)->step_size, (r)->steps, (r)->windows, (r)->warm_up, \
+        (r)->seed
+#define OUTPUTS_OF(o) SLICES_OF(o), words((o)->counts), doubles((o)->times)
+#define SLICES_OF(o) SLICE_OF((o)->rows), SLICE_OF((o)->exponents), SLICE_OF((o)->state)
+#define SLICE_OF(l) doubles(l), (l)->length
 
 static int replay_root(void) {
     asked = "lyapunov_sqrt";
@@ -196,20 +197,20 @@ static int replay_orth(void) {
     const lent *numbers = lend("numbers", OUTPUT, decimal(given("numbers")));
     asked = "lyapunov_modified_gram_schmidt";
     uint64_t num = lyapunov_modified_gram_schmidt(
-        doubles(directions), directions->length, decimal(given("d")), doubles(numbers),
-        numbers->length, words(place));
+        SLICE_OF(directions), decimal(given("d")), SLICE_OF(numbers), words(place));
     return memory_kept() && refused_as(num, entry(place, 0)) && holds(directions, "dirs") &&
            holds(numbers, "numbers");
 }
 
 static int replay_step(void) {
     circuit c = read_circuit();
+    c.matrix = lend_list("mat", INPUT);
     const lent *state = lend_list("state", BOTH), *directions = lend_list("dirs", BOTH);
     const lent *place = lend("place", OUTPUT, 1);
     asked = "lyapunov_step";
     uint64_t num = lyapunov_step(
-        CIRCUIT_OF(c), number(given("t")), doubles(state), state->length, doubles(directions),
-        directions->length, decimal(given("count")), number(given("h")), words(place));
+        CIRCUIT_OF(c), number(given("t")), SLICE_OF(state), SLICE_OF(directions),
+        decimal(given("count")), number(given("h")), words(place));
     return memory_kept() && refused_as(num, entry(place, 0)) && holds(state, "state") &&
            holds(directions, "dirs");
 }
@@ -249,6 +250,11 @@ static outputs lend_outputs(size_t rows, size_t exponents, size_t state) {
                      lend("times", OUTPUT, LYAPUNOV_TIMES)};
 }
 
+static outputs given_outputs(void) {
+    return lend_outputs(decimal(given("rowslen")), decimal(given("expslen")),
+                        decimal(given("finallen")));
+}
+
 static uint64_t spectrum_at(const run *r, const outputs *o) {
     asked = "lyapunov_estimate_spectrum_at";
     return lyapunov_estimate_spectrum_at(CIRCUIT_OF(r->circuit), r->time, RUN_OF(r, o));
@@ -264,8 +270,8 @@ static uint64_t largest(const run *r, const outputs *o) {
     asked = "lyapunov_estimate_largest";
     by_largest++;
     return lyapunov_estimate_largest(
-        CIRCUIT_OF(r->circuit), doubles(r->start), r->start->length, r->step_size, r->steps,
-        r->windows, OUTPUTS_OF(o));
+        CIRCUIT_OF(r->circuit), SLICE_OF(r->start), r->step_size, r->steps, r->windows,
+        OUTPUTS_OF(o));
 }
 
 static uint64_t keep(const run *r, const outputs *o) {
@@ -348,14 +354,19 @@ static int time_is(uint64_t x, const char *name) {
     return float_is(name, 0, x, strcmp(text, "-") == 0 ? 0 : bits(text));
 }
 
+static int slices_are(const outputs *o) {
+    return holds(o->rows, "rows") && holds(o->exponents, "exps") && holds(o->state, "final");
+}
+
+static int outputs_are(const outputs *o) {
+    return counts_are(o->counts) && time_is(entry(o->times, LYAPUNOV_FINAL_TIME), "ftime") &&
+           time_is(entry(o->times, LYAPUNOV_MEASURED_TIME), "mtime") && slices_are(o);
+}
+
 static int run_is(const run *r, uint64_t (*call)(const run *, const outputs *)) {
-    outputs o = lend_outputs(decimal(given("rowslen")), decimal(given("expslen")),
-                             decimal(given("finallen")));
+    outputs o = given_outputs();
     uint64_t num = call(r, &o), place = entry(o.counts, LYAPUNOV_PLACE);
-    return memory_kept() && refused_as(num, place) && counts_are(o.counts) &&
-           time_is(entry(o.times, LYAPUNOV_FINAL_TIME), "ftime") &&
-           time_is(entry(o.times, LYAPUNOV_MEASURED_TIME), "mtime") && holds(o.rows, "rows") &&
-           holds(o.exponents, "exps") && holds(o.state, "final");
+    return memory_kept() && refused_as(num, place) && outputs_are(&o);
 }
 
 /* The tests 1 to 12 and 25 alone: they pass what is refused by a later one, or by none. */
@@ -363,18 +374,25 @@ static int input_is(const run *r) {
     const lent *place = lend("place", OUTPUT, 1);
     asked = "lyapunov_validate";
     uint64_t num = lyapunov_validate(
-        CIRCUIT_OF(r->circuit), r->time, doubles(r->start), r->start->length, r->top_k,
-        r->step_size, r->steps, r->windows, r->warm_up, words(place));
+        CIRCUIT_OF(r->circuit), r->time, SLICE_OF(r->start), r->top_k, r->step_size, r->steps,
+        r->windows, r->warm_up, words(place));
     if (!memory_kept()) return 0;
     uint64_t listed = decimal(answered("num"));
     if (listed <= 12 || listed == 25) return refused_as(num, entry(place, 0));
     return number_is("num", 0, num, 0) && number_is("place", 0, entry(place, 0), 0);
 }
 
-static run read_run(void) {
+/* A run without its matrix, as it is handed in. */
+static run read_handed_in(void) {
     run r = {.circuit = read_circuit(), .start = lend_list("x0", INPUT)};
     r.time = number(given("t0"));
     read_settings(&r);
+    return r;
+}
+
+static run read_run(void) {
+    run r = read_handed_in();
+    r.circuit.matrix = lend_list("mat", INPUT);
     return r;
 }
 
@@ -393,39 +411,55 @@ static int replay_run(void) {
     return run_is(&r, largest);
 }
 
-/* What the lines so far have left in the store, from the first `empty` on. Each call is lent a
- * copy, at a place of its own. */
-static uint64_t left_floats[LYAPUNOV_STORE_FLOATS], left_counts[LYAPUNOV_STORE_COUNTS];
-static int has_store;
+/* Memory that outlives a line. Each call is lent a copy of what the last one left, at a place of
+ * its own; `left` is NULL before the first. */
+typedef struct {
+    const char *name;
+    size_t length;
+    uint64_t *left;
+} lasting;
 
-static const lent *lend_words(const char *name, enum role role, const uint64_t *from, size_t n) {
-    lent *l = lend(name, role, n);
-    for (size_t i = 0; has_store && i < n; i++) set_entry(l, i, from[i]);
+static void put_what_was_left(const lasting *m, const lent *l) {
+    for (size_t i = 0; i < m->length; i++) set_entry(l, i, m->left[i]);
+}
+
+static const lent *lend_lasting(const lasting *m, enum role role) {
+    const lent *l = lend(m->name, role, m->length);
+    if (m->left != NULL) put_what_was_left(m, l);
     return l;
 }
 
+/* What a call left is what the next one is lent. */
+static void take_back(lasting *m, const lent *l) {
+    *m = (lasting){l->name, l->length, realloc(m->left, 8 * (l->length + 1))};
+    if (m->left == NULL) abort();
+    for (size_t i = 0; i < l->length; i++) m->left[i] = entry(l, i);
+}
+
+static lasting store_floats = {"store_floats", LYAPUNOV_STORE_FLOATS, NULL};
+static lasting store_counts = {"store_counts", LYAPUNOV_STORE_COUNTS, NULL};
+
 static store lend_store(enum role floats, enum role counts, uint8_t number) {
-    return (store){lend_words("store_floats", floats, left_floats, LYAPUNOV_STORE_FLOATS),
-                   lend_words("store_counts", counts, left_counts, LYAPUNOV_STORE_COUNTS), number};
+    return (store){lend_lasting(&store_floats, floats), lend_lasting(&store_counts, counts),
+                   number};
 }
 
 static store given_store(enum role floats, enum role counts) {
     uint64_t number = decimal(given("number"));
-    if (!has_store) malformed("no empty store before", given("id"));
+    if (store_counts.left == NULL) malformed("no empty store before", given("id"));
     if (number > UINT8_MAX) malformed("no number of a state", given("number"));
     return lend_store(floats, counts, (uint8_t)number);
 }
 
-/* What a call left in its store is what the next one is lent. */
-static void take_back(const store *s) {
-    for (size_t i = 0; i < s->floats->length; i++) left_floats[i] = entry(s->floats, i);
-    for (size_t i = 0; i < s->counts->length; i++) left_counts[i] = entry(s->counts, i);
+static void take_store_back(const store *s) {
+    take_back(&store_floats, s->floats);
+    take_back(&store_counts, s->counts);
 }
 
 static int stays(const lent *l) {
     for (size_t i = 0; i < l->length; i++)
         if (entry(l, i) != entry_before(l, i))
-            return differs("%s, entry %zu: changed, although refused", l->name, i);
+            return differs("%s, entry %zu: changed, and must stay", l->name, i);
     return 1;
 }
 
@@ -440,8 +474,7 @@ static int replay_empty(void) {
     store s = lend_store(INPUT, BOTH, 0);
     asked = "lyapunov_empty_store";
     lyapunov_empty_store(words(s.counts));
-    take_back(&s);
-    has_store = 1;
+    take_store_back(&s);
     if (!memory_kept() || !all_zero(s.counts)) return 0;
     asked = "lyapunov_forget";
     for (unsigned n = 0; n <= UINT8_MAX; n++) {
@@ -457,7 +490,7 @@ static int replay_keep(void) {
     r.store = given_store(BOTH, BOTH);
     int met = run_is(&r, keep);
     uint64_t num = decimal(answered("num"));
-    take_back(&r.store);
+    take_store_back(&r.store);
     if (!met || (num != 0 && (!stays(r.store.floats) || !stays(r.store.counts)))) return 0;
     return num == 27 || run_is(&r, spectrum_at);
 }
@@ -482,9 +515,136 @@ static int replay_forget(void) {
     store s = given_store(INPUT, BOTH);
     asked = "lyapunov_forget";
     uint64_t num = lyapunov_forget(doubles(s.floats), words(s.counts), s.number);
-    take_back(&s);
+    take_store_back(&s);
     return memory_kept() && refused_as(num, 0) && (num == 0 || stays(s.counts)) &&
            is_not_kept(s.number);
+}
+
+/* The four arrays of the dispatcher. */
+enum { FLOATS, COUNTS, SETTINGS, QUEUE, ARRAYS };
+static lasting dispatcher[ARRAYS] = {{"run_floats", LYAPUNOV_DISPATCHER_FLOATS, NULL},
+                                     {"run_counts", LYAPUNOV_DISPATCHER_COUNTS, NULL},
+                                     {"run_settings", LYAPUNOV_DISPATCHER_SETTINGS, NULL},
+                                     {"queue", LYAPUNOV_DISPATCHER_QUEUE, NULL}};
+
+typedef struct {
+    const lent *of[ARRAYS];
+} arrays;
+#define ARRAYS_OF(a) \
+    doubles((a).of[FLOATS]), words((a).of[COUNTS]), doubles((a).of[SETTINGS]), words((a).of[QUEUE])
+
+static arrays given_dispatcher(enum role settings) {
+    arrays a;
+    if (dispatcher[QUEUE].left == NULL) malformed("no empty dispatcher before", given("id"));
+    for (size_t i = 0; i < ARRAYS; i++)
+        a.of[i] = lend_lasting(&dispatcher[i], i == SETTINGS ? settings : BOTH);
+    return a;
+}
+
+static void take_dispatcher_back(const arrays *a) {
+    for (size_t i = 0; i < ARRAYS; i++) take_back(&dispatcher[i], a->of[i]);
+}
+
+static int dispatcher_stays(const arrays *a) {
+    for (size_t i = 0; i < ARRAYS; i++)
+        if (!stays(a->of[i])) return 0;
+    return 1;
+}
+
+static int next_is(const lent *queue, uint64_t name) {
+    asked = "lyapunov_next";
+    return number_is("name", 0, lyapunov_next(words(queue)), name) && memory_kept();
+}
+
+static int replay_dispatcher(void) {
+    const lent *queue = lend_lasting(&dispatcher[QUEUE], BOTH);
+    asked = "lyapunov_empty_dispatcher";
+    lyapunov_empty_dispatcher(words(queue));
+    take_back(&dispatcher[QUEUE], queue);
+    return memory_kept() && all_zero(queue) && next_is(queue, LYAPUNOV_NOBODY);
+}
+
+static int replay_next(void) {
+    arrays a = given_dispatcher(BOTH);
+    return next_is(a.of[QUEUE], decimal(answered("name"))) && dispatcher_stays(&a);
+}
+
+static int replay_hand_in(void) {
+    run r = read_handed_in();
+    arrays a = given_dispatcher(BOTH);
+    const lent *name = lend("name", OUTPUT, 1), *place = lend("place", OUTPUT, 1);
+    asked = "lyapunov_hand_in";
+    uint64_t num = lyapunov_hand_in(ARRAYS_OF(a), KIND_OF(r.circuit), r.time, START_OF(&r),
+                                    words(name), words(place));
+    take_dispatcher_back(&a);
+    return memory_kept() && refused_as(num, entry(place, 0)) &&
+           number_is("name", 0, entry(name, 0), decimal(answered("name"))) &&
+           (num == 0 || dispatcher_stays(&a));
+}
+
+/* Sets of outputs that turns are lent again and again. */
+enum { SETS = 16, SLICES = 3 };
+static lasting sets[SETS][SLICES];
+
+/* A set that is made anew, or as the last turn left it. */
+static outputs lend_set(const lasting set[SLICES]) {
+    uint64_t fresh = decimal(given("fresh"));
+    outputs o = given_outputs();
+    const lent *slices[SLICES] = {o.rows, o.exponents, o.state};
+    if (fresh > 1) malformed("neither 0 nor 1", given("fresh"));
+    for (size_t i = 0; fresh == 0 && i < SLICES; i++) {
+        if (set[i].left == NULL || set[i].length != slices[i]->length)
+            malformed("no such set of outputs", given("set"));
+        put_what_was_left(&set[i], slices[i]);
+    }
+    return o;
+}
+
+static uint64_t listed_stage(void) {
+    static const char *const stages[] = {"nobody", "unfit", "under-way", "over"};
+    const char *stage = answered("stage");
+    uint64_t n = 0;
+    while (strcmp(stage, stages[n]) != 0)
+        if (++n == sizeof stages / sizeof *stages) malformed("unknown stage", stage);
+    return n;
+}
+
+/* Of a run that is not over nothing is told. */
+static int nothing_is_told(const outputs *o) {
+    static const char *const names[] = {"finished", "made", "faint", "ftime", "mtime"};
+    for (size_t i = 0; i < sizeof names / sizeof *names; i++)
+        if (strcmp(answered(names[i]), "-") != 0)
+            return differs("%s: not told, listed %s", names[i], answered(names[i]));
+    return stays(o->counts) && stays(o->times) && slices_are(o);
+}
+
+/* What a turn answers. An event has the place of an unfit turn, and counts that of a run. */
+static int turn_is(uint64_t num, const lent *event, const outputs *o) {
+    uint64_t stage = entry(event, LYAPUNOV_EVENT_STAGE), place = entry(event, LYAPUNOV_EVENT_PLACE);
+    if (!number_is("stage", 0, stage, listed_stage())) return 0;
+    if (!number_is("name", 0, entry(event, LYAPUNOV_EVENT_NAME), decimal(answered("name"))) ||
+        !number_is("begun", 0, entry(event, LYAPUNOV_EVENT_BEGUN), decimal(answered("begun"))))
+        return 0;
+    if (stage != LYAPUNOV_STAGE_OVER) return refused_as(num, place) && nothing_is_told(o);
+    return number_is("place of the event", 0, place, 0) &&
+           refused_as(num, entry(o->counts, LYAPUNOV_PLACE)) && outputs_are(o);
+}
+
+static int replay_turn(void) {
+    uint64_t n = decimal(given("set"));
+    if (n >= SETS) malformed("no number of a set", given("set"));
+    arrays a = given_dispatcher(INPUT);
+    outputs o = lend_set(sets[n]);
+    const lent *matrix = lend_list("mat", INPUT), *event = lend("event", OUTPUT, LYAPUNOV_EVENTS);
+    asked = "lyapunov_turn";
+    uint64_t num = lyapunov_turn(ARRAYS_OF(a), SLICE_OF(matrix), SLICES_OF(&o), words(event),
+                                 words(o.counts), doubles(o.times));
+    take_dispatcher_back(&a);
+    take_back(&sets[n][0], o.rows);
+    take_back(&sets[n][1], o.exponents);
+    take_back(&sets[n][2], o.state);
+    int spent = entry(event, LYAPUNOV_EVENT_STAGE) >= LYAPUNOV_STAGE_UNDER_WAY;
+    return memory_kept() && turn_is(num, event, &o) && (spent || dispatcher_stays(&a));
 }
 
 static int replay_rates(void) {
@@ -492,12 +652,10 @@ static int replay_rates(void) {
     const lent *dimension = lend("out", OUTPUT, 1), *entropy = lend("out", OUTPUT, 1);
     const lent *p = lend("place", OUTPUT, 1), *q = lend("place", OUTPUT, 1);
     asked = "lyapunov_kaplan_yorke_dimension";
-    uint64_t num = lyapunov_kaplan_yorke_dimension(doubles(rates), rates->length,
-                                                   doubles(dimension), words(p));
+    uint64_t num = lyapunov_kaplan_yorke_dimension(SLICE_OF(rates), doubles(dimension), words(p));
     if (!memory_kept() || !refused_as(num, entry(p, 0)) || !value_is(dimension, "dim")) return 0;
     asked = "lyapunov_kolmogorov_sinai_entropy";
-    num = lyapunov_kolmogorov_sinai_entropy(doubles(rates), rates->length, doubles(entropy),
-                                            words(q));
+    num = lyapunov_kolmogorov_sinai_entropy(SLICE_OF(rates), doubles(entropy), words(q));
     return memory_kept() && refused_as(num, entry(q, 0)) && value_is(entropy, "ent");
 }
 
@@ -568,7 +726,8 @@ static int replay(char *line) {
         {"orth", replay_orth}, {"step", replay_step},   {"build", replay_build},
         {"run", replay_run},   {"rates", replay_rates}, {"prog", replay_program},
         {"validate", replay_validate}, {"empty", replay_empty}, {"keep", replay_keep},
-        {"go-on", replay_go_on}, {"forget", replay_forget}};
+        {"go-on", replay_go_on}, {"forget", replay_forget}, {"dispatcher", replay_dispatcher},
+        {"hand-in", replay_hand_in}, {"next", replay_next}, {"turn", replay_turn}};
     const char *kind = read_line(line), *id = given("id");
     for (size_t i = 0; i < sizeof kinds / sizeof *kinds; i++) {
         if (strcmp(kind, kinds[i].name) != 0) continue;

@@ -16,19 +16,30 @@ static double rows[LYAPUNOV_ROWS_LENGTH(LYAPUNOV_MAX_DIMENSION, WINDOWS)];
 static double exponents[LYAPUNOV_MAX_DIMENSION], end[LYAPUNOV_MAX_DIMENSION], times[LYAPUNOV_TIMES];
 static double start[LYAPUNOV_MAX_DIMENSION], rates[RATES], dimension;
 static struct lyapunov_store store;
+static struct lyapunov_dispatcher dispatcher;
 static struct lyapunov_system of;
 static size_t top_k;
-static uint64_t counts[LYAPUNOV_COUNTS], refused, place;
+static uint64_t counts[LYAPUNOV_COUNTS], event[LYAPUNOV_EVENTS], refused, name, place;
 
-#define RUN \
-    of.kind, of.p0, of.p1, of.p2, of.dimension, of.matrix.at, of.matrix.length, 0.0, start, \
-        of.dimension, top_k, 0.01, 3, WINDOWS, 2, LYAPUNOV_DEFAULT_SEED, rows, \
-        sizeof rows / sizeof *rows, exponents, LYAPUNOV_MAX_DIMENSION, end, \
-        LYAPUNOV_MAX_DIMENSION, counts, times
+#define SYSTEM of.kind, of.p0, of.p1, of.p2, of.dimension
+#define MATRIX of.matrix.at, of.matrix.length
+#define START 0.0, start, of.dimension, top_k, 0.01, 3, WINDOWS, 2, LYAPUNOV_DEFAULT_SEED
+#define SLICES \
+    rows, sizeof rows / sizeof *rows, exponents, LYAPUNOV_MAX_DIMENSION, end, LYAPUNOV_MAX_DIMENSION
+#define RUN SYSTEM, MATRIX, START, SLICES, counts, times
+#define DISPATCHER \
+    dispatcher.floats, dispatcher.counts, dispatcher.settings, dispatcher.queue
 
 static void run(void) { refused = lyapunov_estimate_spectrum_at(RUN); }
 static void keep(void) { refused = lyapunov_keep(store.floats, store.counts, 7, RUN); }
 static void go_on(void) { refused = lyapunov_go_on(store.floats, store.counts, 7, RUN); }
+static void hand_in(void) { refused = lyapunov_hand_in(DISPATCHER, SYSTEM, START, &name, &place); }
+/* All turns of the run that was handed in, so that its end is among them. */
+static void turns(void)
+{
+    while (lyapunov_next(dispatcher.queue) != LYAPUNOV_NOBODY)
+        refused = lyapunov_turn(DISPATCHER, MATRIX, SLICES, event, counts, times);
+}
 static void rank(void)
 {
     refused = lyapunov_kaplan_yorke_dimension(rates, RATES, &dimension, &place);
@@ -41,7 +52,7 @@ struct call {
 };
 static struct call calls[] = {
     {"a run", run, 0}, {"a keep", keep, 0}, {"a going on", go_on, 0},
-    {"the dimension of 256 rates", rank, 0},
+    {"a hand-in", hand_in, 0}, {"a turn", turns, 0}, {"the dimension of 256 rates", rank, 0},
 };
 enum { CALLS = sizeof calls / sizeof *calls };
 
@@ -110,6 +121,7 @@ int main(int argc, char **argv)
     for (i = 0; i < sizeof matrix / sizeof *matrix; i++)
         matrix[i] = 0.02 * ((double)(i * 7 % 11) - 5.0);
     lyapunov_store_empty(&store);
+    lyapunov_dispatcher_empty(&dispatcher);
     measure(lyapunov_lorenz(10.0, 28.0, 8.0 / 3.0));
     measure(lyapunov_rossler(0.2, 0.2, 5.7));
     measure(lyapunov_van_der_pol(1.0));

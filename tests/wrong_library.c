@@ -14,6 +14,10 @@
 #define lyapunov_keep __real_lyapunov_keep
 #define lyapunov_go_on __real_lyapunov_go_on
 #define lyapunov_forget __real_lyapunov_forget
+#define lyapunov_empty_dispatcher __real_lyapunov_empty_dispatcher
+#define lyapunov_hand_in __real_lyapunov_hand_in
+#define lyapunov_next __real_lyapunov_next
+#define lyapunov_turn __real_lyapunov_turn
 #define lyapunov_kaplan_yorke_dimension __real_lyapunov_kaplan_yorke_dimension
 #define lyapunov_kolmogorov_sinai_entropy __real_lyapunov_kolmogorov_sinai_entropy
 #include "lyapunov.h"
@@ -22,7 +26,7 @@
 #include <stdlib.h>
 #include <string.h>
 
-enum { MOST_SLICES = 9, MOST_ENTRIES = LYAPUNOV_STORE_FLOATS };
+enum { MOST_SLICES = 11, MOST_ENTRIES = LYAPUNOV_STORE_FLOATS };
 
 static struct {
     const char *name;
@@ -176,18 +180,23 @@ uint64_t __wrap_lyapunov_validate(
 }
 
 /* The parameters of a run, and the same as arguments, with so many windows. */
+#define SYSTEM_PARAMETERS uint64_t kind, double p0, double p1, double p2, size_t dimension
+#define MATRIX_PARAMETERS const double *matrix, size_t matrix_len
+#define START_PARAMETERS \
+    double time, const double *state, size_t state_len, size_t top_k, double step_size, \
+        uint64_t steps_per_window, uint64_t windows, uint64_t transient_windows, uint64_t seed
+#define SLICE_PARAMETERS \
+    double *rows, size_t rows_len, double *exponents, size_t exponents_len, \
+        double *final_state, size_t final_state_len
 #define RUN_PARAMETERS \
-    uint64_t kind, double p0, double p1, double p2, size_t dimension, const double *matrix, \
-        size_t matrix_len, double time, const double *state, size_t state_len, size_t top_k, \
-        double step_size, uint64_t steps_per_window, uint64_t windows, \
-        uint64_t transient_windows, uint64_t seed, double *rows, size_t rows_len, \
-        double *exponents, size_t exponents_len, double *final_state, size_t final_state_len, \
-        uint64_t *counts, double *times
+    SYSTEM_PARAMETERS, MATRIX_PARAMETERS, START_PARAMETERS, SLICE_PARAMETERS, uint64_t *counts, \
+        double *times
 #define INPUTS_FOR(windows) \
-    kind, p0, p1, p2, dimension, matrix, matrix_len, time, state, state_len, top_k, step_size, \
-        steps_per_window, windows, transient_windows, seed
-#define OUTPUTS \
-    rows, rows_len, exponents, exponents_len, final_state, final_state_len, counts, times
+    kind, p0, p1, p2, dimension, matrix, matrix_len, START_FOR(windows)
+#define START_FOR(windows) \
+    time, state, state_len, top_k, step_size, steps_per_window, windows, transient_windows, seed
+#define SLICES rows, rows_len, exponents, exponents_len, final_state, final_state_len
+#define OUTPUTS SLICES, counts, times
 
 /* In this order, behind the two arrays of a store where there is one. */
 enum { STORE_FLOATS, STORE_COUNTS, ROWS = 4 };
@@ -195,6 +204,10 @@ enum { STORE_FLOATS, STORE_COUNTS, ROWS = 4 };
     do { \
         handed("matrix", matrix, matrix_len); \
         handed("state", state, state_len); \
+        HANDED_OUTPUTS(); \
+    } while (0)
+#define HANDED_OUTPUTS() \
+    do { \
         handed("rows", rows, rows_len); \
         handed("exponents", exponents, exponents_len); \
         handed("final_state", final_state, final_state_len); \
@@ -251,11 +264,12 @@ static int ever_kept[256];
 /* Outputs of a run that nobody sees. */
 static struct {
     double rows[1 << 16], exponents[16], final_state[16], times[LYAPUNOV_TIMES];
-    uint64_t counts[LYAPUNOV_COUNTS];
+    uint64_t counts[LYAPUNOV_COUNTS], event[LYAPUNOV_EVENTS];
 } unseen;
-#define UNSEEN \
+#define UNSEEN_SLICES \
     unseen.rows, sizeof unseen.rows / sizeof *unseen.rows, unseen.exponents, 16, \
-        unseen.final_state, 16, unseen.counts, unseen.times
+        unseen.final_state, 16
+#define UNSEEN UNSEEN_SLICES, unseen.counts, unseen.times
 
 static size_t kept_numbers(void) {
     size_t kept = 0;
@@ -409,6 +423,143 @@ uint64_t __wrap_lyapunov_go_on(const double *store_floats, const uint64_t *store
         lyapunov_keep(floats, slots, under, INPUTS_FOR(g.before + windows), UNSEEN);
     if (n == 0 && is_wrong("going on", "forgets")) lyapunov_forget(floats, slots, under);
     if (n > 13 && n < 19 && is_wrong("refused rows", "left out")) undo(ROWS);
+    return spoiled(n);
+}
+
+/* The runs of the dispatcher by their names, how many are unfinished, how many were ever taken, and
+ * the one that is put in front although it is not. */
+static struct {
+    size_t dimension, top_k;
+} runs[LYAPUNOV_DISPATCHER_RUNS];
+static uint64_t unfinished, ever_taken, put_in_front = LYAPUNOV_NOBODY;
+
+#define DISPATCHER run_floats, run_counts, run_settings, queue
+/* In this order, in front of all else. */
+enum { RUN_FLOATS, RUN_COUNTS, RUN_SETTINGS, QUEUE, ARRAYS };
+#define HANDED_DISPATCHER() \
+    do { \
+        handed("run_floats", run_floats, LYAPUNOV_DISPATCHER_FLOATS); \
+        handed("run_counts", run_counts, LYAPUNOV_DISPATCHER_COUNTS); \
+        handed("run_settings", run_settings, LYAPUNOV_DISPATCHER_SETTINGS); \
+        handed("queue", queue, LYAPUNOV_DISPATCHER_QUEUE); \
+    } while (0)
+
+/* A call that must leave the dispatcher as it is, and changes an array. */
+static void change_an_array(const char *call) {
+    for (size_t i = 0; i < slice_count && i < ARRAYS; i++)
+        if (is_wrong(call, slices[i].name)) slices[i].at[8 * slices[i].length - 1] ^= 1;
+}
+
+void __wrap_lyapunov_empty_dispatcher(uint64_t *queue) {
+    handed("queue", queue, LYAPUNOV_DISPATCHER_QUEUE);
+    lyapunov_empty_dispatcher(queue);
+    unfinished = ever_taken = 0;
+    put_in_front = LYAPUNOV_NOBODY;
+    spoiled(0);
+}
+
+uint64_t __wrap_lyapunov_next(const uint64_t *queue) {
+    handed("queue", queue, LYAPUNOV_DISPATCHER_QUEUE);
+    uint64_t name = lyapunov_next(queue);
+    change_an_array("next changes");
+    if (name == LYAPUNOV_NOBODY && is_wrong("nobody", "as 0")) name = 0;
+    return spoiled(put_in_front == LYAPUNOV_NOBODY ? name : put_in_front);
+}
+
+/* Tests of a hand-in that are left out, made too early or made too late. */
+static uint64_t admitted_otherwise(uint64_t n, uint64_t kind, uint64_t test, uint64_t test_place,
+                                   uint64_t *name, uint64_t *place) {
+    if (n == 28 && test != 0 && is_wrong("28 after", "settings")) {
+        *place = test_place;
+        return test;
+    }
+    if (n == 28 && is_wrong("28", "left out")) return *name = 0;
+    if (n != 0 || kind != LYAPUNOV_LINEAR || !is_wrong("9 on", "handing in")) return n;
+    for (size_t i = 0; i < ARRAYS; i++) undo(i);
+    *name = LYAPUNOV_NOBODY;
+    return 9;
+}
+
+uint64_t __wrap_lyapunov_hand_in(double *run_floats, uint64_t *run_counts, double *run_settings,
+                                 uint64_t *queue, SYSTEM_PARAMETERS, START_PARAMETERS,
+                                 uint64_t *name, uint64_t *place) {
+    HANDED_DISPATCHER();
+    handed("state", state, state_len);
+    handed("name", name, 1);
+    handed("place", place, 1);
+    uint64_t test_place, n = lyapunov_hand_in(DISPATCHER, kind, p0, p1, p2, dimension,
+                                              START_FOR(windows), name, place);
+    if (n != 0) change_an_array("refused hand-in changes");
+    if (n == 0) {
+        runs[*name].dimension = state_len;
+        runs[*name].top_k = top_k;
+        if (is_wrong("new run", "in front")) put_in_front = *name;
+        if (is_wrong("name by", "count")) *name = unfinished;
+        if (is_wrong("finished run", "keeps its name")) *name = ever_taken;
+        unfinished++;
+        ever_taken++;
+    }
+    uint64_t test = lyapunov_build_config(top_k, step_size, steps_per_window, windows, &test_place);
+    return spoiled(admitted_otherwise(n, kind, test, test_place, name, place));
+}
+
+/* Spends the turn of the run in front on outputs that nobody sees; 0 where it is not spent. */
+static int spend_unseen(double *run_floats, uint64_t *run_counts, const double *run_settings,
+                        uint64_t *queue) {
+    static const double matrix[16 * 16];
+    size_t dimension = runs[lyapunov_next(queue)].dimension;
+    lyapunov_turn(DISPATCHER, matrix, dimension * dimension, UNSEEN_SLICES, unseen.event,
+                  unseen.counts, unseen.times);
+    return unseen.event[LYAPUNOV_EVENT_STAGE] >= LYAPUNOV_STAGE_UNDER_WAY;
+}
+
+/* A turn's row at place 0, whichever window it is of: it begins where the first entry changed. */
+static void put_row_first(double *rows, size_t rows_len, size_t width) {
+    double row[1 + 2 * LYAPUNOV_MAX_DIMENSION];
+    size_t at = 0;
+    while (at < rows_len && memcmp(rows + at, slices[ROWS].before + 8 * at, 8) == 0) at++;
+    if (at == rows_len) return;
+    memcpy(row, rows + at, width * sizeof *row);
+    undo(ROWS);
+    memcpy(rows, row, width * sizeof *row);
+}
+
+/* What is told or written of a run before it is over. */
+static void tell_early(uint64_t *event, double *exponents, double *final_state, uint64_t *counts,
+                       double *times) {
+    if (is_wrong("counts", "while under way")) memset(counts, 0, LYAPUNOV_COUNTS * sizeof *counts);
+    if (is_wrong("times", "while under way")) memset(times, 0, LYAPUNOV_TIMES * sizeof *times);
+    if (is_wrong("exponents", "while under way")) exponents[0] = 0.0;
+    if (is_wrong("final_state", "while under way")) final_state[0] = 0.0;
+    if (is_wrong("turn goes", "to the front")) put_in_front = event[LYAPUNOV_EVENT_NAME];
+}
+
+uint64_t __wrap_lyapunov_turn(double *run_floats, uint64_t *run_counts, const double *run_settings,
+                              uint64_t *queue, MATRIX_PARAMETERS, SLICE_PARAMETERS,
+                              uint64_t *event, uint64_t *counts, double *times) {
+    HANDED_DISPATCHER();
+    HANDED_OUTPUTS();
+    handed("matrix", matrix, matrix_len);
+    handed("event", event, LYAPUNOV_EVENTS);
+    while (put_in_front != LYAPUNOV_NOBODY && lyapunov_next(queue) != put_in_front &&
+           spend_unseen(DISPATCHER))
+        continue;
+    uint64_t n = lyapunov_turn(DISPATCHER, matrix, matrix_len, SLICES, event, counts, times);
+    uint64_t stage = event[LYAPUNOV_EVENT_STAGE];
+    if (stage == LYAPUNOV_STAGE_NOBODY) change_an_array("nobody's turn changes");
+    if (stage == LYAPUNOV_STAGE_UNFIT) change_an_array("unfit turn changes");
+    if (stage == LYAPUNOV_STAGE_UNFIT && is_wrong("unfit turn", "is spent"))
+        spend_unseen(DISPATCHER);
+    if (stage == LYAPUNOV_STAGE_UNDER_WAY) tell_early(event, exponents, final_state, counts, times);
+    if (stage == LYAPUNOV_STAGE_OVER) {
+        unfinished--;
+        put_in_front = LYAPUNOV_NOBODY;
+        if (is_wrong("place of an end", "in the event")) event[LYAPUNOV_EVENT_PLACE] = 1;
+        if (n != 0 && is_wrong("refused run", "ends all")) lyapunov_empty_dispatcher(queue);
+    }
+    if (stage >= LYAPUNOV_STAGE_UNDER_WAY && is_wrong("row", "at place 0"))
+        put_row_first(rows, rows_len, 1 + 2 * runs[event[LYAPUNOV_EVENT_NAME]].top_k);
+    if (is_wrong("begun", "one less")) event[LYAPUNOV_EVENT_BEGUN] -= 1;
     return spoiled(n);
 }
 

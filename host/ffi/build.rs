@@ -36,7 +36,10 @@ fn given_archive(path: PathBuf) -> PathBuf {
 }
 
 fn built_archive(root: &Path) -> PathBuf {
-    println!("cargo:rerun-if-changed={}", root.join("crates.txt").display());
+    println!(
+        "cargo:rerun-if-changed={}",
+        root.join("crates.txt").display()
+    );
     // Not a crate's out/, which each build writes.
     for entry in fs::read_dir(root.join("crates")).expect("the crates") {
         let folder = entry.expect("a crate's folder").path();

@@ -1,25 +1,23 @@
 -- The answers of the calls as the code gives them, and what a turn returns and leaves. Definitions only.
 use Rattle.std.specs.Prelude.{ℕ, ◌<◌, ◌≡◌, get_or, Result, Ok, Err}
 use Rattle.std.proofs.Math.Option.{none}
-use Rattle.error.specs.Refusal.{refuse, refusal}
+use Rattle.error.specs.Refusal.{refusal}
 use Rattle.error.specs.Tests.{first_failing}
+use Rattle.error.specs.declared.LyapunovError.{LyapunovError}
 use Rattle.benettin.specs.Estimate.{Input}
 use Rattle.benettin.specs.Outputs.{observed}
 use Rattle.turns.specs.Turn.{hand_in_tests, HandedIn, taken_at, drawn, Slices}
 use Rattle.turns.specs.Dispatcher.{Reply, named, rejected, nobody, unfit, advanced, finished}
 use Rattle.schedule.specs.Schedule.{Memory}
 use Rattle.dispatching.specs.Served.{Served, served}
-use Rattle.dispatch.specs.declared.AdmissionError.{AdmissionError}
-use Rattle.dispatch.specs.declared.AdmissionError.TheVariants.{Full, Refused}
 use Rattle.dispatch.specs.declared.TurnTaken.{TurnTaken}
 use Rattle.dispatch.specs.declared.TurnTaken.TheVariants.{Nobody, Unfit, UnderWay, Over}
 
 -- ---- handing in
 
-abbrev pub admission : Result ℕ AdmissionError → Reply
+abbrev pub admission : Result ℕ LyapunovError → Reply
 admission (Ok n) = named n
-admission (Err Full) = rejected (refuse 28 0)
-admission (Err (Refused e)) = rejected (refusal e)
+admission (Err e) = rejected (refusal e)
 
 -- past the tests
 abbrev pub drawn_in : Input → ℕ → HandedIn

@@ -15,7 +15,7 @@ use Rattle.progress.specs.UnderWay.{recorded}
 use Rattle.course.specs.Course.{written}
 use Rattle.store.specs.Slots as Slots
 use Rattle.store.specs.Slots.{tag_at}
-use Rattle.store.specs.Beside.{saved_beside}
+use Rattle.store.specs.Beside.{saved_beside, progress_in, LoadedBeside}
 use Rattle.turns.specs.Turn.{Job, warming, window_by, warmed_by, place}
 use Rattle.schedule.specs.Schedule.{Memory, names_in, rotated, shortened, sound_at}
 use Rattle.schedule.specs.Promises.{settings_at}
@@ -90,7 +90,9 @@ pub record Left (j n : ℕ) (F : List Float) (q : List ℕ) (F' : List Float) (q
 
 -- ---- a turn of the run in slot j, which is in front, once its tests are passed
 
-pub record TurnsIn (j : ℕ) (s : Settings) (m x rows es fs : List Float) (M : Memory) : Type 0 where
+pub record TurnsIn (j : ℕ) (s : Settings) (m x ns : List Float) (g : List ℕ) (rows es fs : List Float) (M : Memory) : Type 0 where
+  -- its state, its norms and its faint counts are taken up, and what it has come to is not yet
+  pub taken_up : (p : Progress) → p ≡ progress_in j g M.runs → LoadedBeside j (length x) s.config.top_k M.runs x ns p
   pub slot : j < 8
   pub names : 0 < length (names_in M.queue)
   pub used : tag_at j M.runs ≢ 0

@@ -116,7 +116,8 @@ fn leave(floats: &mut [f64; 2568], queue: &mut [u64; 65], slot: usize, count: us
     schedule::dequeue(queue);
 }
 
-// The run in a slot makes its window, once the tests are passed.
+// The run in a slot, whose state, norms and faint counts are taken up, makes its window. The rest is taken up here, where nothing
+// comes before it: so it is not cleared first, which would be a call of the C library (docs/DECISIONS.md, 43).
 fn turn_in(
     floats: &mut [f64; 2568],
     counts: &mut [u64; 152],
@@ -127,17 +128,18 @@ fn turn_in(
     matrix: &[f64],
     state: &mut [f64],
     norms: &mut [f64; 32],
+    faint: [u64; 16],
     rows: &mut [f64],
     exponents: &mut [f64],
     final_state: &mut [f64],
 ) -> TurnTaken
-    requires { Turns.TurnsIn slot settings matrix.now state.old rows.old exponents.old final_state.old (Schedule.memory (Slots.memory floats.old counts.old) stored.now queue.old) }
+    requires { Turns.TurnsIn slot settings matrix.now state.old norms.old faint rows.old exponents.old final_state.old (Schedule.memory (Slots.memory floats.old counts.old) stored.now queue.old) }
     ensures { Replies.TurnReturns result (slices rows.old exponents.old final_state.old) (slices rows.new exponents.new final_state.new)
         (Schedule.memory (Slots.memory floats.new counts.new) stored.now queue.new)
         (Served.given_in none slot matrix.now (slices rows.old exponents.old final_state.old) (Schedule.memory (Slots.memory floats.old counts.old) stored.now queue.old)) }
 {
     let config = settings.config;
-    let mut progress = store::beside::load_beside(floats, counts, slot, state, norms, config.top_k);
+    let mut progress = store::beside::progress_at(floats, counts, slot, faint);
     let begun = settings.warmed + progress.windows + 1;
     let count = config.top_k * state.len();
     let made = make_window(
@@ -202,6 +204,10 @@ pub fn turn_of(
     let d = system::dimension(set.system);
     let mut moving = [0.0; 16];
     let mut norms = [0.0; 32];
+    let state = &mut moving[..d];
+    let k = set.config.top_k;
+    store::beside::load_vectors(floats, slot, state, &mut norms, k);
+    let faint = store::faint_at(counts, slot, k);
     turn_in(
         floats,
         counts,
@@ -210,8 +216,9 @@ pub fn turn_of(
         slot,
         set,
         matrix,
-        &mut moving[..d],
+        state,
         &mut norms,
+        faint,
         rows,
         exponents,
         final_state,

@@ -17,26 +17,10 @@ ghost use Rattle.turns.specs.Dispatcher as Dispatcher;
 ghost use Rattle.schedule.specs.Schedule as Schedule;
 ghost use Rattle.dispatching.specs.Served as Served;
 ghost use Rattle.dispatch.specs.Replies as Replies;
-ghost use Rattle.dispatch.specs.declared.AdmissionError.TheVariants.{Refused};
 
 use benettin::{BenettinConfig, RefusedRun, SpectrumEstimate};
 use error::LyapunovError;
 use system::System;
-
-// Why a run is not taken: eight are unfinished already, or a test refuses it.
-#[derive(Clone, Copy)]
-pub enum AdmissionError {
-    Full,
-    Refused(LyapunovError),
-}
-
-impl From<LyapunovError> for AdmissionError {
-    ghost from_gives = { λ error given. given ≡ Refused error };
-
-    fn from(error: LyapunovError) -> AdmissionError {
-        AdmissionError::Refused(error)
-    }
-}
 
 // What a turn did: nothing, since nobody is next; nothing to the run with a name, since what was lent does not fit; one window
 // of it; or its last one, with the run's answer. `begun` counts the windows of the run that are begun.
@@ -79,7 +63,7 @@ fn take_in(
     time: f64,
     state: &[f64],
     config: BenettinConfig,
-) -> Result<usize, AdmissionError>
+) -> Result<usize, LyapunovError>
     requires { Replies.TakesIn (Estimate.input system [] time state.now config) config.top_k (Schedule.memory (Slots.memory floats.old counts.old) settings.old queue.old) }
     ensures { Served.served (Schedule.memory (Slots.memory floats.new counts.new) settings.new queue.new) (Replies.admission result)
         ≡ Served.admitted_in (Replies.drawn_in (Estimate.input system [] time state.now config) config.top_k) (Schedule.memory (Slots.memory floats.old counts.old) settings.old queue.old) }
@@ -109,7 +93,7 @@ fn take_in(
     Ok(name)
 }
 
-// A run is handed in to a dispatcher with room for it.
+// A run is handed in to a dispatcher with room for it. Its matrix and outputs come with its turns.
 fn admit(
     floats: &mut [f64; 2568],
     counts: &mut [u64; 152],
@@ -119,7 +103,7 @@ fn admit(
     time: f64,
     state: &[f64],
     config: BenettinConfig,
-) -> Result<usize, AdmissionError>
+) -> Result<usize, LyapunovError>
     requires { get_or queue.old 56 0 < 8 }
     ensures { Served.served (Schedule.memory (Slots.memory floats.new counts.new) settings.new queue.new) (Replies.admission result)
         ≡ Served.received_in false (Estimate.input system [] time state.now config) config.top_k (Schedule.memory (Slots.memory floats.old counts.old) settings.old queue.old) }
@@ -129,7 +113,7 @@ fn admit(
     take_in(floats, counts, settings, queue, system, time, state, config)
 }
 
-// Hands a run in. Its matrix and outputs come with its turns.
+// Hands a run in: where eight are unfinished, no test of it is made.
 pub fn hand_in(
     floats: &mut [f64; 2568],
     counts: &mut [u64; 152],
@@ -139,14 +123,14 @@ pub fn hand_in(
     time: f64,
     state: &[f64],
     config: BenettinConfig,
-) -> Result<usize, AdmissionError>
+) -> Result<usize, LyapunovError>
     ensures { Served.served (Schedule.memory (Slots.memory floats.new counts.new) settings.new queue.new) (Replies.admission result)
         ≡ Served.serve_in (Schedule.memory (Slots.memory floats.old counts.old) settings.old queue.old) (Dispatcher.hand_in (Estimate.input system [] time state.now config) config.top_k) }
 {
     if queue[56] < 8 {
         admit(floats, counts, settings, queue, system, time, state, config)
     } else {
-        Err(AdmissionError::Full)
+        Err(LyapunovError::DispatcherFull)
     }
 }
 

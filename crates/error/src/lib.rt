@@ -40,6 +40,7 @@ pub enum LyapunovError {
     TooFewCells,
     NoSuchNumber,
     StoreFull,
+    DispatcherFull,
 }
 
 // A refusal's number and its place. `place` is document 01's own term: the index, direction or output that the refusal
@@ -91,6 +92,7 @@ impl From<LyapunovError> for Refusal {
             LyapunovError::TooFewCells => Refusal::new(25, 0),
             LyapunovError::NoSuchNumber => Refusal::new(26, 0),
             LyapunovError::StoreFull => Refusal::new(27, 0),
+            LyapunovError::DispatcherFull => Refusal::new(28, 0),
         }
     }
 }

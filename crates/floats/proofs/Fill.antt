@@ -2,7 +2,7 @@
 use Prim.Native.Nat.{ℕ, suc, ◌+◌, ◌≤◌, ◌<◌}
 use native.Mathlib.Numerals.{add-one}
 use native.Mathlib.Omega.{arith}
-use mathlib.Core.Path.{◌≡◌, sym}
+use mathlib.Core.Path.{◌≡◌, sym, ap, ◌∙◌}
 use mathlib.Core.List.{List, ◌++◌, map, append-nil}
 use lib.ListN.{length, take, drop, get_or, set, drop_of_length-le, length-map}
 use lib.Seq.{take_all, take-suc, length-take-le, drop-cons, set_at, append_snoc, take-suc-set}
@@ -15,10 +15,27 @@ module _ {A : Type 0} where
       rw (drop-cons o i d g, set_at (take i L) (get_or o i d) (drop (suc i) o) (get_or L i d) i (length-take-le i L (omega arith)), add-one, take-suc L i d h)
       (sym (append_snoc (take i L) (get_or L i d) (drop (suc i) o)))
 
--- an iteration of the loop, where X is under way
+  -- an iteration of the loop, where X is under way
+  pub fill_at : (L o X : List A) (i j : ℕ) (v : A) → X ≡ take i L ++ drop i o → v ≡ get_or L i v → j ≡ i + 1 → j ≤ length L → j ≤ length o → set X i v ≡ take j L ++ drop j o
+  fill_at L o X i j v e f k h g =
+      ap (set X i) f
+      ∙ ap (λ (Y : List A). set Y i (get_or L i v)) e
+      ∙ fill_next L o i v (omega (arith, k, h)) (omega (arith, k, g))
+      ∙ ap (λ (m : ℕ). take m L ++ drop m o) (sym k)
+
+-- the same of floats
 pub fill_step : (L o X : List Float) (i : ℕ) (v : Float) → X ≡ take i L ++ drop i o → v ≡ get_or L i nan → i < length L → i < length o
     → set X i v ≡ take (i + 1) L ++ drop (i + 1) o
 fill_step L o X i v e f h g = rw (e, f) (fill_next L o i nan h g)
+
+-- ---- n entries of L are written over o, behind which o has none
+
+module _ {A : Type 0} (L o : List A) (n : ℕ) {X : List A} (e : X ≡ take n L ++ drop n o) (h : length o ≤ n) where
+  pub copied_front : X ≡ take n L
+  copied_front = e ∙ ap (λ (l : List A). take n L ++ l) (drop_of_length-le o h) ∙ append-nil (take n L)
+
+  pub copied_whole : length L ≤ n → X ≡ L
+  copied_whole g = copied_front ∙ take_all n L g
 
 -- ---- a loop that writes a list L over a list row from the front, told by what is still to come
 

@@ -1,4 +1,5 @@
-// Binary64 values: tests on one float, the order of total_cmp, and the first entry of a slice that is not finite.
+// Binary64 values: tests on one float, the order of total_cmp, the first entry of a slice that is not finite, and copies of a few
+// entries.
 //
 // Each function equals a definition of specs/ for every input. They are written here, on comparisons and bits, a form that the
 // project keeps (document 01). proofs/ holds the laws on the toolchain's model of
@@ -7,7 +8,7 @@
 // (Vector). Start with specs/.
 #![tactic(auto)]
 
-ghost use Rattle.std.specs.Prelude.{◌≡◌};
+ghost use Rattle.std.specs.Prelude.{◌≡◌, ◌≤◌, ◌++◌, length, take, drop};
 ghost use Rattle.std.specs.Float.{binary64};
 ghost use Rattle.std.specs.Float.Ieee.{to_bits};
 ghost use Rattle.std.specs.Float.Ieee.Scale.{finite};
@@ -82,4 +83,20 @@ pub fn first_not_finite(xs: &[f64]) -> Option<usize>
     ensures { index result ≡ first_not_finite xs.now }
 {
     xs.iter().position(|x| !is_finite(*x))
+}
+
+// The first n entries of one slice into another, in pairs: pairs stay whole between two loops (docs/DECISIONS.md, 17), and where
+// entries are few no function of the C library is called, which slows what comes after it (43).
+pub fn copy_pairs<T: Copy>(out: &mut [T], from: &[T], n: usize)
+    requires { (n ≤ length out.old) × (n ≤ length from.now) }
+    ensures { out.new ≡ take n from.now ++ drop n out.old }
+{
+    for pair in 0..n / 2 {
+        let i = 2 * pair;
+        out[i] = from[i];
+        out[i + 1] = from[i + 1];
+    }
+    if n % 2 == 1 {
+        out[n - 1] = from[n - 1];
+    }
 }

@@ -1,8 +1,9 @@
--- Numbers and slices as C hands them over: a value that is written only where there is one, and what the orthonormaliser and a run return. Definitions only.
-use Rattle.std.specs.Prelude.{ℕ, ◌≡◌, List, [], ◌∷◌, Float}
-use Rattle.std.proofs.Math.Option.{Option}
-use Rattle.error.specs.Refusal.{Answer, value, refused, refusal_in, number_of, place_of}
+-- Numbers and slices as C hands them over: a value that is written only where there is one, and what the orthonormaliser, a run, a store and a dispatcher return. Definitions only.
+use Rattle.std.specs.Prelude.{ℕ, ◌≡◌, List, [], ◌∷◌, Float, Result, Ok, Err}
+use Rattle.std.proofs.Math.Option.{Option, none, some}
+use Rattle.error.specs.Refusal.{Answer, value, refused, refusal_in, reported, number_of, place_of}
 use Rattle.error.specs.Tests.{first_failing}
+use Rattle.error.specs.declared.LyapunovError.{LyapunovError}
 use Rattle.error.specs.declared.Refusal.{Refusal}
 use Rattle.gram_schmidt.specs.GramSchmidt.{Orthonormalised}
 use Rattle.rk4.specs.Step.{Stepped}
@@ -12,6 +13,11 @@ use Rattle.benettin.specs.Outputs.{Estimated, estimated}
 use Rattle.store.specs.Slots.{Memory}
 use Rattle.calls.specs.Calls.{ran, told}
 use Rattle.calls.specs.Served.{Served, served}
+use Rattle.turns.specs.Turn.{Slices, slices}
+use Rattle.turns.specs.Dispatcher.{Reply, named, rejected, nobody, unfit, advanced, finished}
+use Rattle.schedule.specs.Schedule as Schedule
+use Rattle.dispatching.specs.Served as Dispatching
+use Rattle.dispatch.specs.Replies.{admission}
 
 -- what stands where `old` was
 abbrev pub value_or : Float → Answer Float → Float
@@ -74,6 +80,52 @@ pub record ForgetReturns (number : ℕ) (m : Memory) (s : Served) : Type 0 where
   pub refusal : Option Refusal
   pub number_is : number ≡ number_of refusal
   pub served_is : s ≡ served (told refusal) m
+
+-- ---- a dispatcher
+
+-- where nobody is next, or a run is not taken, the name is 8
+abbrev pub next_name : Option ℕ → ℕ
+next_name (some n) = n
+next_name none = 8
+
+abbrev pub taken_name : Result ℕ LyapunovError → ℕ
+taken_name (Ok n) = n
+taken_name (Err e) = 8
+
+-- what handing in returns and leaves, by what it is served: `answer` is a name, or what is refused
+pub record HandInReturns (number name place : ℕ) (m : Schedule.Memory) (s : Dispatching.Served) : Type 0 where
+  pub answer : Result ℕ LyapunovError
+  pub refusal_is : Refuses number place (reported answer)
+  pub name_is : name ≡ taken_name answer
+  pub served_is : s ≡ Dispatching.served m (admission answer)
+
+-- what a turn returns and leaves: a number, the four numbers of its event, and counts, times and slices
+pub record TurnAnswer : Type 0 where
+  pub number : ℕ
+  pub event : List ℕ
+  pub counts : List ℕ
+  pub times : List Float
+  pub slices : Slices
+
+abbrev pub turn_answer : ℕ → List ℕ → List ℕ → List Float → Slices → TurnAnswer
+turn_answer number event counts times z = record { number = number; event = event; counts = counts; times = times; slices = z }
+
+-- an event: the stage, the name, how many windows of the run are begun, and the place of what is refused
+abbrev pub event : ℕ → ℕ → ℕ → ℕ → List ℕ
+event stage name begun place = stage ∷ name ∷ begun ∷ place ∷ []
+
+-- By the reply, where c, t and z were before: counts and times are written where the run is over. The last two are replies of a hand-in.
+abbrev pub turn_answered : List ℕ → List Float → Slices → Reply → TurnAnswer
+turn_answered c t z nobody = turn_answer 0 (event 0 8 0 0) c t z
+turn_answered c t z (unfit n w r) = turn_answer r.number (event 1 n w r.place) c t z
+turn_answered c t z (advanced n w y) = turn_answer 0 (event 2 n w 0) c t y
+turn_answered c t z (finished n w x) = turn_answer (number_of x.refusal) (event 3 n w 0) (counts x) (times x) (slices x.rows x.exponents x.final_state)
+turn_answered c t z (named n) = turn_answer 0 [] c t z
+turn_answered c t z (rejected r) = turn_answer 0 [] c t z
+
+pub record TurnReturns (c : List ℕ) (t : List Float) (z : Slices) (x : TurnAnswer) (m : Schedule.Memory) (s : Dispatching.Served) : Type 0 where
+  pub answer_is : x ≡ turn_answered c t z s.reply
+  pub memory_is : m ≡ s.memory
 
 -- ---- a run
 

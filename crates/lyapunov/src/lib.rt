@@ -10,7 +10,7 @@
 // side by side here, and functions of one shape stay apart: each is an exported name.
 #![tactic(auto)]
 
-ghost use Rattle.std.specs.Prelude.{◌≡◌, replicate};
+ghost use Rattle.std.specs.Prelude.{◌≡◌, [], replicate};
 ghost use Rattle.sqrt.specs.SquareRoot.{root};
 ghost use Rattle.ln.specs.Logarithm.{logarithm};
 ghost use Rattle.splitmix64.specs.Mix as Mix;
@@ -23,6 +23,10 @@ ghost use Rattle.diagnostics.specs.Rates as Rates;
 ghost use Rattle.store.specs.Slots.{memory};
 ghost use Rattle.calls.specs.Calls as Calls;
 ghost use Rattle.calls.specs.Served.{serve};
+ghost use Rattle.turns.specs.Turn.{slices};
+ghost use Rattle.turns.specs.Dispatcher as Dispatcher;
+ghost use Rattle.schedule.specs.Schedule as Schedule;
+ghost use Rattle.dispatching.specs.Served.{serve_in};
 ghost use Rattle.interface.specs.Interface as Interface;
 ghost use Rattle.system_numbers.specs.Numbers as Numbers;
 
@@ -477,6 +481,114 @@ pub extern "C" fn lyapunov_forget(
         Ok(()) => 0,
         Err(e) => Refusal::from(e).number,
     }
+}
+
+// A dispatcher without runs.
+#[unsafe(no_mangle)]
+pub extern "C" fn lyapunov_empty_dispatcher(queue: &mut [u64; 65])
+    ensures { queue.new ≡ replicate 65 0 }
+{
+    dispatch::empty(queue)
+}
+
+// Hands a run in: `name` gets its name, and 8 where it is refused.
+#[unsafe(no_mangle)]
+pub extern "C" fn lyapunov_hand_in(
+    run_floats: &mut [f64; 2568],
+    run_counts: &mut [u64; 152],
+    run_settings: &mut [f64; 32],
+    queue: &mut [u64; 65],
+    kind: u64,
+    p0: f64,
+    p1: f64,
+    p2: f64,
+    dimension: usize,
+    time: f64,
+    state: &[f64],
+    top_k: usize,
+    step_size: f64,
+    steps_per_window: u64,
+    windows: u64,
+    transient_windows: u64,
+    seed: u64,
+    name: &mut u64,
+    place: &mut u64,
+) -> u64
+    ensures { Interface.HandInReturns result name.new place.new
+        (Schedule.memory (memory run_floats.new run_counts.new) run_settings.new queue.new)
+        (serve_in (Schedule.memory (memory run_floats.old run_counts.old) run_settings.old queue.old) (Dispatcher.hand_in
+        (input (Numbers.system kind p0 p1 p2 dimension) [] time state.now (settings top_k step_size steps_per_window windows transient_windows seed))
+        top_k)) }
+{
+    let system = System::from(Numbered {
+        kind,
+        p0,
+        p1,
+        p2,
+        dimension,
+    });
+    let config = BenettinConfig {
+        top_k,
+        step_size,
+        steps_per_window,
+        windows,
+        transient_windows,
+        seed,
+    };
+    let answer = dispatch::hand_in(
+        run_floats,
+        run_counts,
+        run_settings,
+        queue,
+        system,
+        time,
+        state,
+        config,
+    );
+    interface::report_admission(answer, name, place)
+}
+
+// The name of the run whose turn is next, or 8.
+#[unsafe(no_mangle)]
+pub extern "C" fn lyapunov_next(queue: &[u64; 65]) -> u64
+    ensures { result ≡ Interface.next_name (Schedule.next_in queue.now) }
+{
+    interface::report_next(dispatch::next(queue))
+}
+
+// One window of the run that is next. `event` takes the stage, the name, the windows begun and the place of what refuses the
+// turn; counts and times are written where the run is over.
+#[unsafe(no_mangle)]
+pub extern "C" fn lyapunov_turn(
+    run_floats: &mut [f64; 2568],
+    run_counts: &mut [u64; 152],
+    run_settings: &[f64; 32],
+    queue: &mut [u64; 65],
+    matrix: &[f64],
+    rows: &mut [f64],
+    exponents: &mut [f64],
+    final_state: &mut [f64],
+    event: &mut [u64; 4],
+    counts: &mut [u64; 19],
+    times: &mut [f64; 2],
+) -> u64
+    ensures { Interface.TurnReturns counts.old times.old (slices rows.old exponents.old final_state.old)
+        (Interface.turn_answer result event.new counts.new times.new (slices rows.new exponents.new final_state.new))
+        (Schedule.memory (memory run_floats.new run_counts.new) run_settings.now queue.new)
+        (serve_in (Schedule.memory (memory run_floats.old run_counts.old) run_settings.now queue.old)
+        (Dispatcher.take_turn matrix.now (slices rows.old exponents.old final_state.old))) }
+{
+    let taken = dispatch::turn(
+        run_floats,
+        run_counts,
+        run_settings,
+        queue,
+        matrix,
+        rows,
+        exponents,
+        final_state,
+    );
+    interface::report_turn(taken, event, counts, times)
 }
 
 // The dimension goes to `out`, which a refusal leaves as it is.

@@ -1,7 +1,6 @@
 // Vectors in arrays of 16, and vectors that lie one after the other in a slice. `zero_padded` and `copy_front` are for arrays in
-// registers: the width is known where they are compiled, so that the loop unrolls. `copy_pairs` is for arrays in memory: pairs
-// stay whole between two loops (docs/DECISIONS.md, 17, has what was tried). A width is at most 16, as the arrays are: an `Fn` that is
-// passed can't name a const parameter.
+// registers: the width is known where they are compiled, so that the loop unrolls. A width is at most 16, as the arrays are: an
+// `Fn` that is passed can't name a const parameter.
 ghost use Rattle.std.specs.Prelude.{◌≡◌, ◌*◌, ◌≤◌, ◌++◌, List, map, length, take, drop, Float};
 ghost use Rattle.floats.specs.Vector.{chunks, concat};
 ghost use Rattle.system.specs.Array.{in16};
@@ -30,21 +29,6 @@ pub fn copy_front<const WIDTH: usize>(out: &mut [f64], from: [f64; 16])
         if i < out.len() {
             out[i] = from[i];
         }
-    }
-}
-
-// The first n floats of one slice into another, in pairs.
-pub fn copy_pairs(out: &mut [f64], from: &[f64], n: usize)
-    requires { (n ≤ length out.old) × (n ≤ length from.now) }
-    ensures { out.new ≡ take n from.now ++ drop n out.old }
-{
-    for pair in 0..n / 2 {
-        let i = 2 * pair;
-        out[i] = from[i];
-        out[i + 1] = from[i + 1];
-    }
-    if n % 2 == 1 {
-        out[n - 1] = from[n - 1];
     }
 }
 

@@ -29,7 +29,7 @@ fn advance_direction(
 {
     let d = t.len();
     let mut t1 = [0.0; 16];
-    arrays::copy_pairs(&mut t1, t, d);
+    floats::copy_pairs(&mut t1, t, d);
     let mut k = [0.0; 16];
     system::jacobian_vector_product(system, columns, points[0], &t1, &mut k);
     let k1 = k;
@@ -43,7 +43,7 @@ fn advance_direction(
     system::jacobian_vector_product(system, columns, points[3], &t4, &mut k);
     let k4 = k;
     let next = stepper::rk4_update::<16>(t1, k1, k2, k3, k4, h);
-    arrays::copy_pairs(t, &next, d);
+    floats::copy_pairs(t, &next, d);
 }
 
 // The state and every direction.
@@ -60,7 +60,7 @@ pub fn advance_wide(
 {
     let d = state.len();
     let mut x1 = [0.0; 16];
-    arrays::copy_pairs(&mut x1, state, d);
+    floats::copy_pairs(&mut x1, state, d);
     let mut k = [0.0; 16];
     system::vector_field(system, columns, &x1, &mut k);
     let k1 = k;
@@ -74,7 +74,7 @@ pub fn advance_wide(
     system::vector_field(system, columns, &x4, &mut k);
     let k4 = k;
     let next = stepper::rk4_update::<16>(x1, k1, k2, k3, k4, h);
-    arrays::copy_pairs(state, &next, d);
+    floats::copy_pairs(state, &next, d);
     let points = [&x1, &x2, &x3, &x4];
     arrays::for_each_vector(tangents, d, count, |t| {
         advance_direction(system, columns, &points, t, h)

@@ -1,3 +1,4 @@
 -- What lent memory holds of a dispatcher.
 pub mod Schedule
 pub mod Promises
+pub mod Examples

@@ -83,8 +83,13 @@ pub fn requeue(queue: &mut [u64; 65])
     requires { 0 < length (Schedule.names_in queue.old) }
     ensures { queue.new ≡ Schedule.rotated queue.old }
 {
-    let e = 57 + queue_length(queue);
-    queue[57..e].rotate_left(1);
+    // `rotate_left` would call the C library (docs/DECISIONS.md, 43).
+    let n = queue_length(queue);
+    let e = 57 + n;
+    let mut names = [0; 8];
+    floats::copy_pairs(&mut names, &queue[58..], n - 1);
+    names[n - 1] = queue[57];
+    floats::copy_pairs(&mut queue[57..e], &names, n);
 }
 
 // The run in front leaves.

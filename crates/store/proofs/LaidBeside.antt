@@ -2,6 +2,7 @@
 use Prim.Native.Nat.{ℕ, ◌+◌, ◌-◌, ◌*◌, ◌≤◌}
 use native.Mathlib.Omega.{arith}
 use mathlib.Core.Path.{◌≡◌, refl, subst, ◌∙◌}
+use mathlib.Core.Logic.{◌≢◌}
 use mathlib.Core.List.{List, ◌∷◌, ◌++◌, append_assoc}
 use borrow.Rule.Slice.PartMut.{put_mid}
 use lib.ListN.{length, take, drop, get_or, set, replicate, length-append, length-replicate}
@@ -18,7 +19,7 @@ use Rattle.totals.specs.declared.Progress.{Progress}
 use Rattle.totals.proofs.Ending.{faint_is}
 use Rattle.store.specs.Slots.{memory, tag_at, laid_floats, saved}
 use Rattle.store.specs.Promises.{Sized, Saves}
-use Rattle.store.specs.Beside.{Fits, laid_beside, saved_beside, SavesBeside, LoadsBeside, LoadedBeside}
+use Rattle.store.specs.Beside.{Fits, laid_beside, saved_beside, SavesBeside, progress_in, LoadedBeside}
 use Rattle.store.proofs.Bounds.{used_sound, front_at_most}
 
 -- the floats beside the directions, written one part after the other
@@ -68,15 +69,7 @@ module _ {A : Type 0} (l : List A) (k : ℕ) (z : A) (e : length l ≡ k) (h : k
 halves : (a k : ℕ) (l : List Float) → part a (k + k) l ≡ part a k l ++ part (a + k) k l
 halves a k l = take-add k k (drop a l) ∙ rw (drop-drop k a l)
 
--- the progress that is read, with these faint counts and sums
-abbrev pub read : ℕ → List Float → List ℕ → List ℕ → List Float → Progress
-read j F C faint sums =
-    record { windows = get_or C (19 * j + 1) 0; steps = get_or C (19 * j + 2) 0; time = get_or F (321 * j + 320) nan; faint = faint; sums = sums }
-
-module _ {j d k : ℕ} {F : List Float} (ns : List Float) {C : List ℕ} (L : LoadsBeside j d k (memory F C)) (Z : Sized (memory F C)) where
-  abbrev fits : Fits j d k
-  fits = L.fits
-
+module _ {j d k : ℕ} (F ns : List Float) (C : List ℕ) (fits : Fits j d k) (used : tag_at j (memory F C) ≢ 0) (Z : Sized (memory F C)) where
   logs : length (part (321 * j + 288) k F) ≡ k
   logs = part_length (321 * j + 288) k F (omega (arith, Z.0, fits.slot, fits.few))
 
@@ -89,10 +82,10 @@ module _ {j d k : ℕ} {F : List Float} (ns : List Float) {C : List ℕ} (L : Lo
   faint : length (part (19 * j + 3) k C) ≡ k
   faint = part_length (19 * j + 3) k C (omega (arith, Z.1, fits.slot, fits.few))
 
-  bounded_read : Bounded k (limit + limit) limit (read j F C (part (19 * j + 3) k C ++ drop k (replicate 16 0)) (part (321 * j + 272) 16 F))
+  bounded_read : Bounded k (limit + limit) limit (progress_in j (part (19 * j + 3) k C ++ drop k (replicate 16 0)) (memory F C))
   unfolding tag_at
   bounded_read =
-      let s = used_sound (get_or C (19 * j) 0) (get_or C (19 * j + 1) 0) (get_or C (19 * j + 2) 0) (part (19 * j + 3) 16 C) (get_or F (321 * j + 320) nan) L.used in
+      let s = used_sound (get_or C (19 * j) 0) (get_or C (19 * j + 1) 0) (get_or C (19 * j + 2) 0) (part (19 * j + 3) 16 C) (get_or F (321 * j + 320) nan) used in
       record {
         counts = sixteen_many (part (19 * j + 3) k C) k 0 faint fits.few;
         behind = drop_at (part (19 * j + 3) k C) (drop k (replicate 16 0)) k faint;
@@ -103,20 +96,15 @@ module _ {j d k : ℕ} {F : List Float} (ns : List Float) {C : List ℕ} (L : Lo
         faint = subst (λ (l : List ℕ). (i : ℕ) → get_or (l ++ drop k (replicate 16 0)) i 0 ≤ limit + limit) (take-take k 16 (drop (19 * j + 3) C) fits.few) (front_at_most (2 * limit) k 16 (part (19 * j + 3) 16 C) s.faint);
       }
 
-  pub loaded_is : (x : List Float) {x' n' s : List Float} {f : List ℕ} → length x ≡ d → x' ≡ part (321 * j) (321 * j + length x - 321 * j) F → n' ≡ part (321 * j + 288) (321 * j + 288 + (k + k) - (321 * j + 288)) F
-      → s ≡ part (321 * j + 272) 16 F → f ≡ part (19 * j + 3) k C ++ drop k (replicate 16 0)
-      → LoadedBeside j d k (memory F C) x' (n' ++ drop (k + k) ns) (read j F C f s)
-  loaded_is x l e₁ e₂ e₃ e₄ =
-      let z : 321 * j + length x - 321 * j ≡ d = omega (arith, l) in
-      let y : 321 * j + 288 + (k + k) - (321 * j + 288) ≡ k + k = omega arith in
+  pub loaded_is : {x n : List Float} {f : List ℕ} {p : Progress} → x ≡ part (321 * j) d F → n ≡ part (321 * j + 288) (k + k) F ++ drop (k + k) ns → f ≡ part (19 * j + 3) k C ++ drop k (replicate 16 0)
+      → p ≡ progress_in j f (memory F C) → LoadedBeside j d k (memory F C) x n p
+  loaded_is e₁ e₂ e₃ e₄ =
       record {
         run = rw (
           e₁,
           e₂,
-          e₃,
           e₄,
-          z,
-          y,
+          e₃,
           halves (321 * j + 288) k F,
           append_assoc (part (321 * j + 288) k F) (part (321 * j + 288 + k) k F) (drop (k + k) ns),
           take_at (part (321 * j + 288) k F) (part (321 * j + 288 + k) k F ++ drop (k + k) ns) k logs,
@@ -125,5 +113,5 @@ module _ {j d k : ℕ} {F : List Float} (ns : List Float) {C : List ℕ} (L : Lo
           take-take k 16 (drop (321 * j + 272) F) fits.few,
           take_at (part (19 * j + 3) k C) (drop k (replicate 16 0)) k faint,
         );
-        bounded = rw (e₃, e₄) bounded_read;
+        bounded = rw (e₄, e₃) bounded_read;
       }

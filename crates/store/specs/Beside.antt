@@ -1,11 +1,12 @@
 -- A run that is laid down and taken up beside its directions, which stand in memory already. Definitions only.
-use Rattle.std.specs.Prelude.{ℕ, ◌+◌, ◌*◌, ◌≤◌, ◌<◌, ◌≡◌, ◌≢◌, List, ◌∷◌, length, take, set, Float}
+use Rattle.std.specs.Prelude.{ℕ, ◌+◌, ◌*◌, ◌≤◌, ◌<◌, ◌≡◌, List, ◌∷◌, length, take, get_or, set, Float}
 use Rattle.std.proofs.lemmas.List.Edits.{sets}
+use Rattle.std.specs.Float.{nan}
 use Rattle.floats.specs.Vector.{part}
 use Rattle.totals.specs.Progress.{held}
 use Rattle.totals.specs.Ending.{Bounded}
 use Rattle.totals.specs.declared.Progress.{Progress}
-use Rattle.store.specs.Slots.{Memory, memory, tag_at}
+use Rattle.store.specs.Slots.{Memory, memory, windows_at}
 use Rattle.store.specs.Promises.{Loaded}
 
 -- a run of d entries and k directions has room in a slot
@@ -33,11 +34,12 @@ abbrev pub saved_beside : ℕ → ℕ → List Float → ℕ → List Float → 
 saved_beside j number x k ns p m =
     memory (laid_beside j x (take k p.sums) (take (k + k) ns) p.time m.floats) (sets m.counts (19 * j) ((number + 1) ∷ p.windows ∷ p.steps ∷ p.faint))
 
--- ---- the run in slot j, which is in use, is taken up
+-- ---- the run in slot j is taken up
 
-pub record LoadsBeside (j d k : ℕ) (m : Memory) : Type 0 where
-  pub fits : Fits j d k
-  pub used : tag_at j m ≢ 0
+-- what it has come to, with these faint counts
+abbrev pub progress_in : ℕ → List ℕ → Memory → Progress
+progress_in j faint m =
+    record { windows = windows_at j m; steps = get_or m.counts (19 * j + 2) 0; time = get_or m.floats (321 * j + 320) nan; faint = faint; sums = part (321 * j + 272) 16 m.floats }
 
 -- with the directions that stand in memory
 abbrev pub LoadedBeside : ℕ → ℕ → ℕ → Memory → List Float → List Float → Progress → Type 0

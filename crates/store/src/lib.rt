@@ -129,19 +129,19 @@ pub fn save(
 {
     let a = 321 * slot + 16;
     let e = a + tangents.len();
-    floats[a..e].copy_from_slice(tangents);
+    floats::copy_pairs(&mut floats[a..e], tangents, tangents.len());
     beside::save_beside(floats, counts, slot, number, state, norms, k, progress);
 }
 
-// The k faint counts of a slot, and zeros behind them. Its sums are read all at once in place of that (beside.rt).
-fn faint_at(counts: &[u64; 152], slot: usize, k: usize) -> [u64; 16]
+// The k faint counts of a slot, and zeros behind them.
+pub fn faint_at(counts: &[u64; 152], slot: usize, k: usize) -> [u64; 16]
     requires { (slot < 8) × (k ≤ 16) }
     ensures { result ≡ part (19 * slot + 3) k counts.now ++ drop k (replicate 16 0) }
 {
     let mut faint = [0u64; 16];
     let a = 19 * slot + 3;
     let e = a + k;
-    faint[..k].copy_from_slice(&counts[a..e]);
+    floats::copy_pairs(&mut faint, &counts[a..e], k);
     faint
 }
 
@@ -158,8 +158,10 @@ pub fn load(
     requires { Contracts.Loads slot (length state.old) k (Slots.memory floats.now counts.now) state.old tangents.old }
     ensures { Contracts.Loaded slot (length state.old) k (Slots.memory floats.now counts.now) (held state.new tangents.new norms.new result) }
 {
+    let n = tangents.len();
     let a = 321 * slot + 16;
-    let e = a + tangents.len();
-    tangents.copy_from_slice(&floats[a..e]);
-    beside::load_beside(floats, counts, slot, state, norms, k)
+    let e = a + n;
+    floats::copy_pairs(tangents, &floats[a..e], n);
+    beside::load_vectors(floats, slot, state, norms, k);
+    beside::progress_at(floats, counts, slot, faint_at(counts, slot, k))
 }

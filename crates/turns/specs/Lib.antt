@@ -3,3 +3,4 @@ pub mod Turn
 pub mod Dispatcher
 pub mod Alone
 pub mod Queue
+pub mod Examples

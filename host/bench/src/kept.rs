@@ -37,7 +37,7 @@ fn going_on() -> Result<Race, String> {
     whole.make();
     let rows = &whole.rows[whole.rows.len() - gone_on.rows.len()..];
     same_bits(&name, &gone_on.rows, rows)?;
-    same_ends(&name, &gone_on, &whole)?;
+    gone_on.same_ends(&name, &whole)?;
     let mut plain = run(later);
     Ok(Race {
         name,
@@ -65,8 +65,7 @@ fn keeping(others: u8, replaced: bool) -> Result<Race, String> {
         keep(&mut store, number, &mut kept);
     }
     plain.make();
-    same_bits(&name, &kept.rows, &plain.rows)?;
-    same_ends(&name, &kept, &plain)?;
+    kept.same(&name, &plain)?;
     let one = move || {
         if !replaced {
             forget(&mut store, others);
@@ -84,11 +83,6 @@ fn keeping(others: u8, replaced: bool) -> Result<Race, String> {
 
 fn repeated(calls: usize, mut call: impl FnMut() + 'static) -> Box<dyn FnMut()> {
     Box::new(move || (0..calls).for_each(|_| call()))
-}
-
-fn same_ends(name: &str, left: &Run, right: &Run) -> Result<(), String> {
-    same_bits(name, &left.exponents, &right.exponents)?;
-    same_bits(name, &left.final_state, &right.final_state)
 }
 
 fn keep(store: &mut StoreMemory, number: u8, run: &mut Run) {

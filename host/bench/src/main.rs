@@ -1,6 +1,7 @@
 //! Times of the proved library beside those of the Rust source, in one process and on the same
 //! inputs. Every result is compared by its bits before it is timed. Prints Markdown.
 
+mod dispatched;
 mod fixed;
 mod growth;
 mod kept;
@@ -33,6 +34,7 @@ fn main() -> ExitCode {
     .and_then(|()| table("the hardware", || Ok(vec![root::race()])))
     .and_then(|()| table("plain Rust with the dimension fixed", fixed::races))
     .and_then(|()| table("a plain run", kept::races))
+    .and_then(|()| table("the same runs alone", dispatched::races))
     .and_then(|()| growth::tables());
     match measured {
         Ok(()) => ExitCode::SUCCESS,

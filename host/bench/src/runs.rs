@@ -83,6 +83,8 @@ pub struct Run {
     pub rows: Vec<f64>,
     pub exponents: Vec<f64>,
     pub final_state: Vec<f64>,
+    counts: [u64; 19],
+    times: [f64; 2],
 }
 
 impl Run {
@@ -92,6 +94,8 @@ impl Run {
             rows: vec![0.0; settings.rows_length()],
             exponents: vec![0.0; settings.top_k],
             final_state: vec![0.0; problem.system.dimension()],
+            counts: [0; 19],
+            times: [0.0; 2],
             problem,
             settings,
         }
@@ -103,6 +107,18 @@ impl Run {
         });
     }
 
+    /// An error where another run's results differ in a bit.
+    pub fn same(&self, name: &str, other: &Self) -> Result<(), String> {
+        same_bits(name, &self.rows, &other.rows)?;
+        self.same_ends(name, other)
+    }
+
+    /// The same without the rows.
+    pub fn same_ends(&self, name: &str, other: &Self) -> Result<(), String> {
+        same_bits(name, &self.exponents, &other.exponents)?;
+        same_bits(name, &self.final_state, &other.final_state)
+    }
+
     /// A call that takes what a run from time 0 does; it must not be refused.
     pub fn call(&mut self, call: impl FnOnce(&System, &[f64], &Settings, &mut Outputs) -> u64) {
         let problem = black_box(&self.problem);
@@ -110,8 +126,8 @@ impl Run {
             rows: &mut self.rows,
             exponents: &mut self.exponents,
             final_state: &mut self.final_state,
-            counts: &mut [0; 19],
-            times: &mut [0.0; 2],
+            counts: &mut self.counts,
+            times: &mut self.times,
         };
         let (system, state) = (&problem.system, &problem.state);
         let number = call(system, state, &self.settings, &mut outputs);

@@ -159,13 +159,18 @@ impl Circuit {
     }
 
     pub fn read(fields: &mut Fields) -> Result<Self, String> {
+        let matrix = fields.floats("mat")?;
+        Self::read_with(&matrix, fields)
+    }
+
+    /// Reads all but the matrix.
+    pub fn read_with(matrix: &[f64], fields: &mut Fields) -> Result<Self, String> {
         let text = fields.take("sys")?;
         let (name, number) = match text.split_once(':') {
             Some((name, number)) => (name, Some(read_count(number)?)),
             None => (text, None),
         };
         let given = fields.floats("par")?;
-        let matrix = fields.floats("mat")?;
         let known = KINDS.iter().position(|kind| kind.name == name);
         let (kind, dimension) = match (known, number) {
             (Some(at), dimension) if KINDS[at].has_dimension() == dimension.is_some() => {
@@ -184,11 +189,25 @@ impl Circuit {
             kind,
             parameters,
             dimension: dimension.map_or(UNUSED.dimension, |dimension| dimension as usize),
-            matrix: &matrix,
+            matrix,
         }))
     }
 
+    /// The same with another matrix.
+    pub fn with_matrix(&self, matrix: &[f64]) -> Self {
+        Self::of_arguments(Arguments {
+            matrix,
+            ..self.arguments()
+        })
+    }
+
     pub fn written(&self) -> String {
+        let numbers = self.written_without_matrix();
+        let matrix = list(&self.matrix, ",", bits);
+        format!("{numbers} mat={matrix}")
+    }
+
+    pub fn written_without_matrix(&self) -> String {
         let (name, count) = match self.kind() {
             Some(kind) if kind.has_dimension() => {
                 let name = format!("{}:{}", kind.name, self.dimension);
@@ -198,8 +217,7 @@ impl Circuit {
             None => (format!("kind:{}", self.kind), 0),
         };
         let parameters = list(&self.parameters[..count], ",", bits);
-        let matrix = list(&self.matrix, ",", bits);
-        format!("sys={name} par={parameters} mat={matrix}")
+        format!("sys={name} par={parameters}")
     }
 }
 

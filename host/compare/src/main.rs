@@ -27,7 +27,9 @@ const USAGE: &str = "usage:
   compare from-zero --count N            runs by estimate_spectrum and estimate_largest
   compare pairs --count N                runs for k and for K exponents (demand 3)
   compare later-pairs --count N          the same of runs that are kept and gone on with
+  compare dispatched-pairs --count N     the same of runs that take turns with others
   compare stores --count N               lists of calls that keep states, go on and forget
+  compare dispatch --count N             lists of hand-ins and turns of runs side by side
   compare rates --count N                dimension and entropy
   compare fuzz [--seconds N] [--calls N] [--seed S]
                                          calls from random bytes, for N seconds (20) or N calls
@@ -109,7 +111,9 @@ fn compare(name: &str, words: &[&str]) -> Result<bool, String> {
         "from-zero" => commands::from_zero,
         "pairs" => commands::pairs,
         "later-pairs" => commands::later_pairs,
+        "dispatched-pairs" => commands::dispatched_pairs,
         "stores" => commands::stores,
+        "dispatch" => commands::dispatch,
         "rates" => commands::rates,
         _ => return Err(USAGE.to_string()),
     };

@@ -37,6 +37,8 @@ pub enum Value {
 #[derive(Clone, Copy, Debug)]
 pub enum Type {
     Count,
+    /// A count that is told only once a run is over.
+    LateCount,
     Place,
     Float,
     Floats,
@@ -46,8 +48,9 @@ pub enum Type {
 }
 
 /// The type of each field that an answer may have.
-const TYPES: [(Type, &[&str]); 7] = [
-    (Type::Count, &["num", "finished", "made"]),
+const TYPES: [(Type, &[&str]); 8] = [
+    (Type::Count, &["num", "name", "begun"]),
+    (Type::LateCount, &["finished", "made"]),
     (Type::Place, &["place"]),
     (Type::Float, &["y", "ftime", "mtime", "dim", "ent"]),
     (
@@ -58,7 +61,7 @@ const TYPES: [(Type, &[&str]); 7] = [
     ),
     (Type::Counts, &["faint"]),
     (Type::Words, &["states", "outs"]),
-    (Type::Text, &["out"]),
+    (Type::Text, &["out", "stage"]),
 ];
 
 /// The type of the field `name`.
@@ -94,9 +97,9 @@ impl Value {
 
     pub fn read(text: &str, as_type: Type) -> Result<Value, String> {
         Ok(match as_type {
-            Type::Count => Value::Count(read_count(text)?),
+            Type::LateCount | Type::Float if text == "-" => Value::Nothing,
+            Type::Count | Type::LateCount => Value::Count(read_count(text)?),
             Type::Place => Value::Count(read_place(text)?),
-            Type::Float if text == "-" => Value::Nothing,
             Type::Float => Value::Float(read_float(text)?),
             Type::Floats => Value::Floats(read_list(text, ',', read_entry)?),
             Type::Counts => Value::Counts(read_list(text, ',', read_count)?),
@@ -217,6 +220,18 @@ impl Answer {
         self
     }
 
+    /// The same with the fields of `other` after its own.
+    pub fn and(mut self, other: Self) -> Self {
+        self.fields.extend(other.fields);
+        self
+    }
+
+    /// The fields with these names alone.
+    pub fn only(mut self, names: &[&str]) -> Self {
+        self.fields.retain(|(name, _)| names.contains(name));
+        self
+    }
+
     /// The same with another value of the field `name`.
     pub fn map(mut self, name: &str, change: impl Fn(Value) -> Value) -> Self {
         for (field, value) in &mut self.fields {
@@ -243,6 +258,11 @@ impl Answer {
             Some(Value::Count(count)) => *count,
             _ => 0,
         }
+    }
+
+    /// Whether the field `name` is this text.
+    pub fn is(&self, name: &str, text: &str) -> bool {
+        matches!(self.get(name), Some(Value::Text(found)) if found == text)
     }
 
     /// Whether a direction was faint.
@@ -295,6 +315,9 @@ mod tests {
         assert_eq!(Value::read("3ff0000000000000,.", Type::Floats), Ok(floats));
         assert_eq!(Value::read("-", Type::Floats), Ok(Value::Floats(vec![])));
         assert_eq!(Value::read("-", Type::Float), Ok(Value::Nothing));
+        assert_eq!(Value::read("-", Type::LateCount), Ok(Value::Nothing));
+        assert_eq!(Value::read("7", Type::LateCount), Ok(Value::Count(7)));
+        assert!(Value::read("-", Type::Count).is_err());
     }
 
     #[test]
@@ -325,6 +348,18 @@ mod tests {
         assert!(leading.admits(&Value::Floats(vec![1.0, 5.0])));
         assert!(!leading.admits(&Value::Floats(vec![])));
         assert!(!Value::Nothing.admits(&Value::Float(0.0)));
+    }
+
+    #[test]
+    fn answers_are_put_together_and_taken_apart() {
+        let (one, other) = (Answer::done(), Answer::default().with("y", Value::Nothing));
+        let both = one.clone().and(other.clone());
+        assert_eq!(both.written(), "num=0 place=0 y=-");
+        assert_eq!(both.clone().only(&["num", "place"]), one);
+        assert_eq!(both.only(&["y", "dim"]), other);
+        let stage = Answer::default().with("stage", Value::Text("over".to_string()));
+        assert!(stage.is("stage", "over") && !stage.is("stage", "unfit"));
+        assert!(!stage.is("out", "over"));
     }
 
     #[test]

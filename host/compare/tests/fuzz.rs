@@ -10,6 +10,8 @@ const RUNS: [&str; 3] = [
 
 const OF_A_STORE: [&str; 4] = ["empty_store ", "keep ", "go_on ", "forget "];
 
+const OF_A_DISPATCHER: [&str; 4] = ["empty_dispatcher ", "next ", "hand_in ", "turn "];
+
 fn fuzz(words: &[&str]) -> Output {
     Command::new(env!("CARGO_BIN_EXE_compare"))
         .arg("fuzz")
@@ -27,6 +29,7 @@ fn some_calls_show_no_difference() {
         .into_iter()
         .chain(RUNS)
         .chain(OF_A_STORE)
+        .chain(OF_A_DISPATCHER)
     {
         assert!(text.contains(function), "{function} in {text}");
     }

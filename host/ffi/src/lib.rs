@@ -6,6 +6,7 @@
 //! the library wrote it. A refusal with the number 0 is none.
 
 mod arguments;
+pub mod interrupt;
 
 pub use arguments::Arguments;
 
@@ -17,13 +18,17 @@ mod raw {
 }
 
 /// Calls a function of the C interface. Its arguments are named in the order of the header, with a
-/// word before each that says how it is handed over: a `system`, the `settings` of a run or some
-/// `fields` of them, a slice to `read` or to `write`, an array of the header's length to be `seen`
-/// or `filled`, the `outputs` of a run, or a single `value`.
+/// word before each that says how it is handed over: a `system` or its `numbers` without a matrix, the
+/// `settings` of a run or some `fields` of them, a slice to `read` or to `write`, an array of the
+/// header's length to be `seen` or `filled`, the `outputs` of a run or their `slices` alone, or a
+/// single `value`.
 macro_rules! call {
     (@ $function:ident [$($done:tt)*] system $of:ident, $($rest:tt)*) => {
+        call!(@ $function [$($done)*] numbers $of, read $of.matrix, $($rest)*)
+    };
+    (@ $function:ident [$($done:tt)*] numbers $of:ident, $($rest:tt)*) => {
         call!(@ $function [$($done)* $of.kind, $of.parameters[0], $of.parameters[1],
-            $of.parameters[2], $of.dimension, $of.matrix.as_ptr(), $of.matrix.len(),] $($rest)*)
+            $of.parameters[2], $of.dimension,] $($rest)*)
     };
     (@ $function:ident [$($done:tt)*] settings $of:ident, $($rest:tt)*) => {
         call!(@ $function [$($done)*] fields $of [top_k, step_size, steps_per_window, windows,
@@ -45,8 +50,11 @@ macro_rules! call {
         call!(@ $function [$($done)* $array.as_mut_ptr(),] $($rest)*)
     };
     (@ $function:ident [$($done:tt)*] outputs $of:ident, $($rest:tt)*) => {
+        call!(@ $function [$($done)*] slices $of, filled $of.counts, filled $of.times, $($rest)*)
+    };
+    (@ $function:ident [$($done:tt)*] slices $of:ident, $($rest:tt)*) => {
         call!(@ $function [$($done)*] write $of.rows, write $of.exponents, write $of.final_state,
-            filled $of.counts, filled $of.times, $($rest)*)
+            $($rest)*)
     };
     (@ $function:ident [$($done:tt)*] value $value:expr, $($rest:tt)*) => {
         call!(@ $function [$($done)* $value,] $($rest)*)
@@ -123,6 +131,51 @@ impl StoreMemory {
         StoreRef {
             floats: &self.floats,
             counts: &self.counts,
+        }
+    }
+}
+
+/// The most unfinished runs of a dispatcher, and the name of nobody.
+pub const DISPATCHER_RUNS: usize = STORE_STATES;
+/// The length of the array with the settings of its runs.
+pub const DISPATCHER_SETTINGS: usize = 32;
+/// The length of its queue.
+pub const DISPATCHER_QUEUE: usize = 65;
+
+/// The memory of a dispatcher. Its runs under way lie in arrays as those of a store. It may hold
+/// anything: every call ends, and touches nothing else.
+#[derive(Debug)]
+pub struct DispatcherMut<'a> {
+    pub runs: StoreMut<'a>,
+    pub settings: &'a mut [f64; DISPATCHER_SETTINGS],
+    pub queue: &'a mut [u64; DISPATCHER_QUEUE],
+}
+
+/// A dispatcher's memory on its own, with no run at first.
+#[derive(Clone, Debug)]
+pub struct DispatcherMemory {
+    pub runs: StoreMemory,
+    pub settings: Box<[f64; DISPATCHER_SETTINGS]>,
+    pub queue: Box<[u64; DISPATCHER_QUEUE]>,
+}
+
+impl DispatcherMemory {
+    #[must_use]
+    pub fn empty() -> Self {
+        let mut queue = Box::new([0; DISPATCHER_QUEUE]);
+        empty_dispatcher(&mut queue);
+        Self {
+            runs: StoreMemory::empty(),
+            settings: Box::new([0.0; DISPATCHER_SETTINGS]),
+            queue,
+        }
+    }
+
+    pub fn lent(&mut self) -> DispatcherMut<'_> {
+        DispatcherMut {
+            runs: self.runs.lent(),
+            settings: &mut self.settings,
+            queue: &mut self.queue,
         }
     }
 }
@@ -293,6 +346,50 @@ pub fn go_on<'a>(
 /// Forgets what is kept under `number`; answers 0 or 26.
 pub fn forget(floats: &[f64; STORE_FLOATS], counts: &mut [u64; STORE_COUNTS], number: u8) -> u64 {
     call!(lyapunov_forget(seen floats, filled counts, value number,))
+}
+
+/// Makes a dispatcher without runs. Its other arrays may hold anything.
+pub fn empty_dispatcher(queue: &mut [u64; DISPATCHER_QUEUE]) {
+    call!(lyapunov_empty_dispatcher(filled queue,))
+}
+
+/// The name of the run whose turn is next; 8 is nobody.
+pub fn next(queue: &[u64; DISPATCHER_QUEUE]) -> u64 {
+    call!(lyapunov_next(seen queue,))
+}
+
+/// Hands in a run; `name` is 8 where it is refused. The system's matrix is not read.
+pub fn hand_in<'a>(
+    dispatcher: DispatcherMut,
+    system: impl Into<Arguments<'a>>,
+    time: f64,
+    state: &[f64],
+    settings: &Settings,
+    name: &mut u64,
+) -> Refusal {
+    let system = system.into();
+    refusal(|place| {
+        call!(lyapunov_hand_in(
+            filled dispatcher.runs.floats, filled dispatcher.runs.counts,
+            filled dispatcher.settings, filled dispatcher.queue,
+            numbers system, value time, read state, settings settings, value name, value place,
+        ))
+    })
+}
+
+/// One window of the run in front; answers the refusal's number, 0 for none. `event` becomes stage,
+/// name, begun windows and place; a stage is 0 nobody, 1 unfit, 2 under way, 3 over.
+pub fn turn(
+    dispatcher: DispatcherMut,
+    matrix: &[f64],
+    outputs: &mut Outputs,
+    event: &mut [u64; 4],
+) -> u64 {
+    call!(lyapunov_turn(
+        filled dispatcher.runs.floats, filled dispatcher.runs.counts,
+        seen dispatcher.settings, filled dispatcher.queue,
+        read matrix, slices outputs, filled event, filled outputs.counts, filled outputs.times,
+    ))
 }
 
 /// `out` is written where the refusal's number is 0.

@@ -24,7 +24,7 @@ macro_rules! refusals {
         }
 
         impl LyapunovError {
-            /// The number of the refusal, 1 to 27.
+            /// The number of the refusal, 1 to 28.
             #[must_use]
             pub const fn number(&self) -> u64 {
                 match self {
@@ -131,6 +131,8 @@ refusals! {
     26 NoSuchNumber => "nothing is kept under this number";
     /// 27: eight other numbers are kept, on keeping. It is tested before any setting.
     27 StoreFull => "eight other numbers are kept";
+    /// 28: eight runs of the dispatcher are unfinished, on hand-in. It is tested before any setting.
+    28 DispatcherFull => "eight runs are unfinished";
 }
 
 /// What the library answers, as a `Result`: 0 is no refusal.
@@ -172,7 +174,7 @@ mod tests {
 
     #[test]
     fn numbers_and_places_are_read_back() {
-        for number in 1..=27 {
+        for number in 1..=28 {
             let error = LyapunovError::from_number(number, 7).unwrap();
             assert_eq!(error.number(), number);
             let placed = [5, 11, 13, 14, 16, 17, 22].contains(&number);
@@ -180,7 +182,7 @@ mod tests {
             assert!(!error.to_string().is_empty());
         }
         assert_eq!(LyapunovError::from_number(0, 0), None);
-        assert_eq!(LyapunovError::from_number(28, 0), None);
+        assert_eq!(LyapunovError::from_number(29, 0), None);
     }
 
     #[test]
@@ -204,7 +206,7 @@ mod tests {
     #[test]
     fn every_error_has_words_of_its_own() {
         let words = |number| LyapunovError::from_number(number, 0).unwrap().to_string();
-        let all: std::collections::BTreeSet<String> = (1..=27).map(words).collect();
-        assert_eq!(all.len(), 27);
+        let all: std::collections::BTreeSet<String> = (1..=28).map(words).collect();
+        assert_eq!(all.len(), 28);
     }
 }

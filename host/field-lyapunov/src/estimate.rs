@@ -3,17 +3,48 @@
 use crate::LyapunovError;
 use core::fmt;
 
+/// The row of a measured window, read where the run wrote it.
+#[derive(Clone, Copy, Debug, PartialEq)]
+pub struct Row<'a> {
+    /// End time, local exponents, running exponents.
+    pub(crate) entries: &'a [f64],
+}
+
+impl<'a> Row<'a> {
+    const fn top_k(self) -> usize {
+        self.entries.len() / 2
+    }
+
+    /// The time at the end of the window.
+    #[must_use]
+    pub const fn end_time(self) -> f64 {
+        self.entries[0]
+    }
+
+    /// The exponents of this window alone.
+    #[must_use]
+    pub fn local_exponents(self) -> &'a [f64] {
+        &self.entries[1..1 + self.top_k()]
+    }
+
+    /// The exponents of all measured windows up to this one.
+    #[must_use]
+    pub fn running_exponents(self) -> &'a [f64] {
+        &self.entries[1 + self.top_k()..]
+    }
+}
+
 /// The exponents of one measured window, and those up to its end.
 #[derive(Clone, Debug, PartialEq)]
 pub struct FiniteTimeEstimate {
     pub(crate) window: usize,
-    /// End time, local exponents, running exponents.
+    /// The entries of a [`Row`].
     pub(crate) row: Vec<f64>,
 }
 
 impl FiniteTimeEstimate {
-    fn top_k(&self) -> usize {
-        self.row.len() / 2
+    fn row(&self) -> Row<'_> {
+        Row { entries: &self.row }
     }
 
     /// Which measured window it is, from 0. After going on from a kept state the windows of the keep
@@ -26,19 +57,19 @@ impl FiniteTimeEstimate {
     /// The time at the end of the window.
     #[must_use]
     pub fn end_time(&self) -> f64 {
-        self.row[0]
+        self.row().end_time()
     }
 
     /// The exponents of this window alone.
     #[must_use]
     pub fn local_exponents(&self) -> &[f64] {
-        &self.row[1..1 + self.top_k()]
+        self.row().local_exponents()
     }
 
     /// The exponents of all measured windows up to this one.
     #[must_use]
     pub fn running_exponents(&self) -> &[f64] {
-        &self.row[1 + self.top_k()..]
+        self.row().running_exponents()
     }
 }
 

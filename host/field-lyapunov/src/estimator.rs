@@ -3,6 +3,7 @@
 use crate::error::answered;
 use crate::{memory, BenettinConfig, FiniteTimeEstimate, LyapunovError, Rk4, MAX_DIMENSION};
 use crate::{RefusedRun, SpectrumEstimate};
+use core::ops::Range;
 use input::{Refusal, Settings};
 use lyapunov_sys::Outputs;
 
@@ -93,45 +94,24 @@ pub(crate) fn run(
     earlier: usize,
     mut call: impl FnMut(&mut Outputs) -> u64,
 ) -> Result<SpectrumEstimate, RefusedRun> {
-    let mut lent = Lent::default();
-    let tested = lent.to(&mut call);
+    let tested = Lent::default().to(&mut call);
     if tested != Refusal::at(13, 0) {
         answered(tested)?;
     }
-    let Some((rows, windows)) = room(settings, earlier) else {
+    let windows = earlier..earlier + settings.windows as usize;
+    let room = Lent::fitting(settings, dimension)
+        .and_then(|lent| Some((lent, listed(windows, settings.row_width())?)));
+    let Some((mut lent, windows)) = room else {
         return Err(LyapunovError::OutputTooShort(0).into());
     };
-    lent.rows = rows;
-    lent.exponents = vec![0.0; settings.top_k];
-    lent.final_state = vec![0.0; dimension];
-    let answer = answered(lent.to(&mut call));
-    let finished = lent.counts[1] as usize;
-    let finite_time = filled(windows, &lent.rows, finished.saturating_sub(earlier));
-    let steps = lent.counts[2];
-    match answer {
-        Err(error) => Err(RefusedRun {
-            error,
-            finite_time,
-            finished,
-            steps,
-        }),
-        Ok(()) => Ok(SpectrumEstimate {
-            exponents: lent.exponents,
-            finite_time,
-            finished,
-            final_state: lent.final_state,
-            faint_counts: lent.counts[3..3 + settings.top_k].to_vec(),
-            steps,
-            final_time: lent.times[0],
-            measured_time: lent.times[1],
-        }),
-    }
+    let refusal = lent.to(&mut call);
+    lent.answer(refusal, windows)
 }
 
 /// What is lent to a run.
-#[derive(Default)]
-struct Lent {
-    rows: Vec<f64>,
+#[derive(Clone, Default)]
+pub(crate) struct Lent {
+    pub(crate) rows: Vec<f64>,
     exponents: Vec<f64>,
     final_state: Vec<f64>,
     counts: [u64; 3 + MAX_DIMENSION],
@@ -139,8 +119,19 @@ struct Lent {
 }
 
 impl Lent {
+    /// As much as a run needs that passed the library's tests; `None` where there is no memory for
+    /// its rows.
+    pub(crate) fn fitting(settings: &Settings, dimension: usize) -> Option<Self> {
+        Some(Self {
+            rows: memory::floats(settings.rows_length())?,
+            exponents: vec![0.0; settings.top_k],
+            final_state: vec![0.0; dimension],
+            ..Self::default()
+        })
+    }
+
     /// What the run that `call` makes is refused by.
-    fn to(&mut self, call: impl FnOnce(&mut Outputs) -> u64) -> Refusal {
+    pub(crate) fn to(&mut self, call: impl FnOnce(&mut Outputs) -> u64) -> Refusal {
         let number = call(&mut Outputs {
             rows: &mut self.rows,
             exponents: &mut self.exponents,
@@ -150,28 +141,58 @@ impl Lent {
         });
         Refusal::at(number, self.counts[0])
     }
+
+    /// The number of measured windows that were finished.
+    pub(crate) const fn finished(&self) -> usize {
+        self.counts[1] as usize
+    }
+
+    /// The answer of a run that is over. Its rows go to the `windows`, which may be too many.
+    pub(crate) fn answer(
+        self,
+        refusal: Refusal,
+        windows: Vec<FiniteTimeEstimate>,
+    ) -> Result<SpectrumEstimate, RefusedRun> {
+        let (finished, steps) = (self.finished(), self.counts[2]);
+        let finite_time = filled(windows, &self.rows, finished);
+        match answered(refusal) {
+            Err(error) => Err(RefusedRun {
+                error,
+                finite_time,
+                finished,
+                steps,
+            }),
+            Ok(()) => Ok(SpectrumEstimate {
+                faint_counts: self.counts[3..3 + self.exponents.len()].to_vec(),
+                exponents: self.exponents,
+                finite_time,
+                finished,
+                final_state: self.final_state,
+                steps,
+                final_time: self.times[0],
+                measured_time: self.times[1],
+            }),
+        }
+    }
 }
 
-/// Memory for the rows, and for the windows that they become, which come after `earlier` ones. The
-/// library's tests have bounded the numbers.
-fn room(settings: &Settings, earlier: usize) -> Option<(Vec<f64>, Vec<FiniteTimeEstimate>)> {
-    let (width, windows) = (settings.row_width(), settings.windows as usize);
-    let rows = memory::floats(settings.rows_length())?;
-    let mut list = memory::list(windows)?;
-    for window in earlier..earlier + windows {
+/// Memory for these windows, whose rows have so many entries.
+pub(crate) fn listed(windows: Range<usize>, width: usize) -> Option<Vec<FiniteTimeEstimate>> {
+    let mut list = memory::list(windows.len())?;
+    for window in windows {
         let row = memory::floats(width)?;
         list.push(FiniteTimeEstimate { window, row });
     }
-    Some((rows, list))
+    Some(list)
 }
 
-/// The first `finished` windows, with their rows.
+/// The windows that are among the first `finished` ones, with their rows.
 fn filled(
     mut windows: Vec<FiniteTimeEstimate>,
     rows: &[f64],
     finished: usize,
 ) -> Vec<FiniteTimeEstimate> {
-    windows.truncate(finished);
+    windows.retain(|entry| entry.window < finished);
     let mut rows = rows;
     for window in &mut windows {
         let (row, rest) = rows.split_at(window.row.len());

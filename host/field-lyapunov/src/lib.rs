@@ -9,7 +9,8 @@
 //!   into its [`LyapunovError`].
 //! - A run reports steps and faint counts too: see [`SpectrumEstimate::faint_counts`].
 //!
-//! Beside these names, a [`Store`] keeps ends of runs under numbers, to go on from.
+//! Beside these names, a [`Store`] keeps ends of runs under numbers, to go on from, and a
+//! [`Dispatcher`] makes up to eight runs side by side, one window at a time.
 //!
 //! No function panics, whatever it is handed. All of them may be called from any thread.
 //!
@@ -34,6 +35,7 @@
 mod arithmetic;
 mod config;
 mod diagnostics;
+mod dispatcher;
 mod error;
 mod estimate;
 mod estimator;
@@ -45,8 +47,9 @@ mod store;
 pub use arithmetic::{ln, sqrt, SplitMix64};
 pub use config::BenettinConfig;
 pub use diagnostics::{kaplan_yorke_dimension, kolmogorov_sinai_entropy};
+pub use dispatcher::{Dispatcher, Turn};
 pub use error::LyapunovError;
-pub use estimate::{FiniteTimeEstimate, RefusedRun, SpectrumEstimate};
+pub use estimate::{FiniteTimeEstimate, RefusedRun, Row, SpectrumEstimate};
 pub use estimator::{estimate_largest, estimate_spectrum, estimate_spectrum_at};
 pub use gram_schmidt::{modified_gram_schmidt, modified_gram_schmidt_into};
 #[doc(inline)]

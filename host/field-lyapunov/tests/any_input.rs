@@ -3,7 +3,8 @@
 
 use field_lyapunov::{
     estimate_spectrum_at, kaplan_yorke_dimension, kolmogorov_sinai_entropy, ln,
-    modified_gram_schmidt, sqrt, BenettinConfig, LyapunovError, Rk4, SplitMix64, Store, System,
+    modified_gram_schmidt, sqrt, BenettinConfig, Dispatcher, LyapunovError, RefusedRun, Rk4,
+    SpectrumEstimate, SplitMix64, Store, System,
 };
 use input::Refusal;
 use lyapunov_sys::Arguments;
@@ -175,6 +176,55 @@ fn kept_states() {
         }
     }
     assert!(gone_on > 100, "{gone_on}");
+}
+
+/// Any runs side by side: each answers as alone, or is refused on hand-in as alone.
+#[test]
+fn side_by_side() {
+    let (mut chooser, mut dispatcher) = (chooser(6), Dispatcher::new());
+    let mut expected: Vec<Option<Answer>> = vec![None; 8];
+    let (mut answered, mut refused, mut full) = (0, 0, 0);
+    for _ in 0..20_000 {
+        let stepper = Rk4::new(chooser.system());
+        let state = chooser.state(stepper.dimension());
+        let (k, h, time) = (chooser.short(), chooser.float(), chooser.float());
+        let Ok(config) = BenettinConfig::new(k, h, chooser.short(), chooser.short()) else {
+            continue;
+        };
+        let config = config.with_transient_windows(chooser.short());
+        let alone = estimate_spectrum_at(&stepper, time, &state, &config);
+        match dispatcher.hand_in(&stepper, time, &state, &config) {
+            Ok(name) => expected[name] = Some(alone),
+            Err(LyapunovError::DispatcherFull) => full += 1,
+            Err(error) => assert_eq!(alone.unwrap_err(), RefusedRun::from(error)),
+        }
+        // So seldom that some ninth run is handed in.
+        let turns = if chooser.0.next_u64() % 64 == 0 {
+            40
+        } else {
+            0
+        };
+        for _ in 0..turns {
+            let Some(turn) = dispatcher.turn() else {
+                continue;
+            };
+            let name = turn.name();
+            if let Some(answer) = turn.into_answer() {
+                answered += u64::from(answer.is_ok());
+                refused += u64::from(answer.is_err());
+                assert_alike(&answer, &expected[name].take().unwrap());
+            }
+        }
+    }
+    let met = [answered, refused, full];
+    assert!(met.iter().all(|count| *count > 100), "{met:?}");
+}
+
+type Answer = Result<SpectrumEstimate, RefusedRun>;
+
+/// Debug text tells the bits of every float but the payloads of NaNs.
+fn assert_alike(left: &Answer, right: &Answer) {
+    assert_eq!(format!("{left:?}"), format!("{right:?}"));
 }
 
 #[test]

@@ -3,7 +3,7 @@
 use field_lyapunov::{
     estimate_largest, estimate_spectrum, estimate_spectrum_at, kaplan_yorke_dimension,
     kolmogorov_sinai_entropy, ln, modified_gram_schmidt, modified_gram_schmidt_into,
-    BenettinConfig, LyapunovError, RefusedRun, Rk4, Store, System, MAX_COUNT,
+    BenettinConfig, Dispatcher, LyapunovError, RefusedRun, Rk4, Store, System, MAX_COUNT,
 };
 
 fn linear(dimension: usize, matrix: &[f64]) -> Rk4 {
@@ -284,6 +284,29 @@ fn kept_states() {
         store.numbers().collect::<Vec<_>>(),
         [1, 2, 3, 4, 5, 6, 7, 8]
     );
+}
+
+#[test]
+fn side_by_side() {
+    let (rest, mut dispatcher) = (linear(1, &[0.0]), Dispatcher::new());
+    let mut hand_in = |stepper: &Rk4, time, state: &[f64], config: &BenettinConfig| {
+        let name = dispatcher.hand_in(stepper, time, state, config);
+        name.map_err(|error| (error.number(), error.place()))
+    };
+    assert_eq!(hand_in(&rest, f64::NAN, &[], &config(9)), Err((6, 0)));
+    // 9 stands between 25 and 10, although turns test it.
+    assert_eq!(hand_in(&ring(3), 0.0, &[], &config(1)), Err((25, 0)));
+    assert_eq!(
+        hand_in(&linear(2, &[0.0]), 0.0, &[], &config(9)),
+        Err((9, 0))
+    );
+    assert_eq!(hand_in(&rest, 0.0, &[], &config(9)), Err((10, 0)));
+    let endless = BenettinConfig::new(1, 1e308, 2, 1).unwrap();
+    assert_eq!(hand_in(&rest, 0.0, &[1.0], &endless), Err((15, 0)));
+    for name in 0..8 {
+        assert_eq!(hand_in(&rest, 0.0, &[1.0], &config(1)), Ok(name));
+    }
+    assert_eq!(hand_in(&rest, f64::NAN, &[], &config(9)), Err((28, 0)));
 }
 
 #[test]

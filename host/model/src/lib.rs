@@ -1,12 +1,13 @@
 //! Document 01, with document 02's requests a (rings), b (the place of refusal 5), c (states kept
-//! under a number) and d (sums from −0.0), as plain Rust, written from the documents and not from the
-//! source.
+//! under a number), d (sums from −0.0) and f (runs side by side), as plain Rust, written from the
+//! documents and not from the source.
 //!
-//! It answers what the source has no behaviour for (refusals 5, 8, 9, 13, 21, 23, 24, 25, 26, 27, the
-//! bound of 16 in 19, faint counts, the rows of a refused run) and is a second opinion on the rest.
-//! It favours plainness over speed.
+//! It answers what the source has no behaviour for (refusals 5, 8, 9, 13, 21, 23 to 28, the bound of
+//! 16 in 19, faint counts, the rows of a refused run, turns) and is a second opinion on the rest. It
+//! favours plainness over speed.
 
 mod arithmetic;
+mod dispatcher;
 mod orthonormalise;
 mod rates;
 mod run;
@@ -18,11 +19,12 @@ pub use arithmetic::{
     logarithm, logarithm_of_parts, logarithm_with, splitmix64, square_root, symmetric_unit,
     LOGARITHM_CONSTANTS,
 };
+pub use dispatcher::{Dispatcher, Stage, Turn};
 pub use orthonormalise::{orthonormalise, orthonormalise_from, SUM_START};
 pub use rates::{entropy, kaplan_yorke_dimension, spectrum_program};
-pub use run::{build_config, estimate, first_count_over, validate, Estimate, Outputs};
+pub use run::{build_config, estimate, first_count_over, validate, Estimate, Input, Outputs};
 pub use step::step;
-pub use store::{Input, Store};
+pub use store::Store;
 
 use input::Refusal;
 

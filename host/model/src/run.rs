@@ -8,6 +8,15 @@ use input::{Refusal, Settings, System, MAX_COUNT, MAX_DIMENSION};
 /// Squared lengths below this are counted as faint: 2^-960.
 const FAINT_BELOW: f64 = f64::from_bits((1023 - 960) << 52);
 
+/// What a run is handed, apart from its outputs.
+#[derive(Clone, Copy, Debug)]
+pub struct Input<'a> {
+    pub system: &'a System,
+    pub time: f64,
+    pub state: &'a [f64],
+    pub settings: &'a Settings,
+}
+
 /// The slices that a run may write.
 pub struct Outputs<'a> {
     pub rows: &'a mut [f64],
@@ -66,18 +75,14 @@ pub fn estimate(
     if let Err(refusal) = tested {
         return refused(refusal, 0, 0);
     }
-    let mut run = Run::at(system, time, state, settings);
-    let mut finished = 0;
-    match run.whole(outputs, &mut finished) {
-        Err(refusal) => refused(refusal, finished, run.steps),
-        Ok(measured_time) => Estimate {
-            refusal: None,
-            finished,
-            steps: run.steps,
-            faint: run.faint,
-            final_time: run.time,
-            measured_time,
-        },
+    let mut run = match Run::begin(time, state, settings) {
+        Ok(run) => run,
+        Err(refusal) => return refused(refusal, 0, 0),
+    };
+    loop {
+        if let Some(answer) = run.next_window(system, outputs) {
+            return answer;
+        }
     }
 }
 
@@ -124,10 +129,13 @@ pub(crate) fn output_tests(
     refuse_if(outputs.final_state.len() < d, Refusal::at(13, 2))
 }
 
-/// What a run carries from window to window.
-struct Run<'a> {
-    system: &'a System,
-    settings: &'a Settings,
+/// A run that has begun and is not over: what it carries from window to window.
+#[derive(Clone, Debug)]
+pub(crate) struct Run {
+    pub(crate) settings: Settings,
+    /// Windows that were begun, warm-up included.
+    pub(crate) begun: u64,
+    finished: u64,
     duration: f64,
     time: f64,
     state: Vec<f64>,
@@ -139,11 +147,13 @@ struct Run<'a> {
     steps: u64,
 }
 
-impl<'a> Run<'a> {
-    fn at(system: &'a System, time: f64, state: &[f64], settings: &'a Settings) -> Self {
-        Self {
-            system,
-            settings,
+impl Run {
+    /// The basis and test 15, of what passed the tests before.
+    pub(crate) fn begin(time: f64, state: &[f64], settings: &Settings) -> Result<Self, Refusal> {
+        let mut run = Self {
+            settings: *settings,
+            begun: 0,
+            finished: 0,
             duration: settings.step_size * settings.steps_per_window as f64,
             time,
             state: state.to_vec(),
@@ -152,29 +162,43 @@ impl<'a> Run<'a> {
             sums: vec![0.0; settings.top_k],
             faint: [0; MAX_DIMENSION],
             steps: 0,
-        }
+        };
+        run.draw_basis()?;
+        refuse_if(!run.duration.is_finite(), Refusal::of(15))?;
+        Ok(run)
     }
 
-    /// The basis, test 15 and every window; answers the measured time.
-    fn whole(&mut self, outputs: &mut Outputs, finished: &mut u64) -> Result<f64, Refusal> {
-        self.draw_basis()?;
-        refuse_if(!self.duration.is_finite(), Refusal::of(15))?;
-        for _ in 0..self.settings.transient_windows {
-            self.window()?;
+    /// Makes the next window, those of the warm-up first; answers once the run is over.
+    pub(crate) fn next_window(
+        &mut self,
+        system: &System,
+        outputs: &mut Outputs,
+    ) -> Option<Estimate> {
+        self.begun += 1;
+        if let Err(refusal) = self.window(system) {
+            return Some(refused(refusal, self.finished, self.steps));
         }
-        let width = 1 + 2 * self.settings.top_k;
-        let windows = self.settings.windows as usize;
-        for row in outputs.rows.chunks_exact_mut(width).take(windows) {
-            self.window()?;
-            *finished += 1;
-            self.report(row, *finished);
+        if self.begun > self.settings.transient_windows {
+            self.report(outputs);
         }
+        (self.finished == self.settings.windows).then(|| self.end(outputs))
+    }
+
+    /// Writes what a run leaves that is not refused.
+    fn end(&self, outputs: &mut Outputs) -> Estimate {
         let measured_time = self.duration * self.settings.windows as f64;
         for (exponent, sum) in outputs.exponents.iter_mut().zip(&self.sums) {
             *exponent = sum / measured_time;
         }
         outputs.final_state[..self.state.len()].copy_from_slice(&self.state);
-        Ok(measured_time)
+        Estimate {
+            refusal: None,
+            finished: self.finished,
+            steps: self.steps,
+            faint: self.faint,
+            final_time: self.time,
+            measured_time,
+        }
     }
 
     /// Draws direction 0, then direction 1, and on; the draw is no window.
@@ -188,10 +212,10 @@ impl<'a> Run<'a> {
         orthonormalise(&mut self.directions, self.state.len(), &mut self.norms)
     }
 
-    fn window(&mut self) -> Result<(), Refusal> {
+    fn window(&mut self, system: &System) -> Result<(), Refusal> {
         let h = self.settings.step_size;
         for _ in 0..self.settings.steps_per_window {
-            advance(self.system, h, &mut self.state, &mut self.directions)?;
+            advance(system, h, &mut self.state, &mut self.directions)?;
             let next = self.time + h;
             refuse_if(!next.is_finite(), Refusal::of(18))?;
             self.time = next;
@@ -207,10 +231,12 @@ impl<'a> Run<'a> {
         Ok(())
     }
 
-    /// Adds the logarithms and writes the row of the measured window `number`, from 1.
-    fn report(&mut self, row: &mut [f64], number: u64) {
-        let k = self.settings.top_k;
-        let elapsed = self.duration * number as f64;
+    /// Adds the logarithms of a measured window and writes its row.
+    fn report(&mut self, outputs: &mut Outputs) {
+        let (k, width) = (self.settings.top_k, self.settings.row_width());
+        let row = &mut outputs.rows[self.finished as usize * width..];
+        self.finished += 1;
+        let elapsed = self.duration * self.finished as f64;
         row[0] = self.time;
         for i in 0..k {
             self.sums[i] += self.norms[i];

@@ -4,21 +4,12 @@
 //! windows from its start again, and hands out the later rows.
 
 use crate::refuse_if;
-use crate::run::{estimate, output_tests, refused, validate, Estimate, Outputs};
+use crate::run::{estimate, output_tests, refused, validate, Estimate, Input, Outputs};
 use input::{Refusal, Settings, System};
 use std::collections::BTreeMap;
 
 /// The most states that are kept.
 const MOST: usize = 8;
-
-/// What a keep or a going on is handed, apart from its number and its outputs.
-#[derive(Clone, Copy, Debug)]
-pub struct Input<'a> {
-    pub system: &'a System,
-    pub time: f64,
-    pub state: &'a [f64],
-    pub settings: &'a Settings,
-}
 
 /// What the last keep under a number that was not refused was handed.
 #[derive(Clone, Debug)]

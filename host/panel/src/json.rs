@@ -1,14 +1,32 @@
 //! The results for programs: one JSON object. Floats are the shortest decimals that read back as
 //! the same float, and one that is not finite is null.
 
-use crate::measured::{moved, Answer, Measured};
-use crate::options::Options;
+use crate::circuit::Circuit;
+use crate::measured::{moved, Answer, Measured, Stopped};
+use crate::turns::Unfinished;
 use field_lyapunov::{
-    kaplan_yorke_dimension, kolmogorov_sinai_entropy, RefusedRun, SpectrumEstimate,
+    kaplan_yorke_dimension, kolmogorov_sinai_entropy, BenettinConfig, RefusedRun, SpectrumEstimate,
 };
 
-pub fn report(options: &Options, measured: &Measured) -> String {
-    let mut fields = input(options);
+/// The one circuit without a name, or a list of several.
+pub fn report(measured: &[Measured]) -> String {
+    let report = match measured {
+        [alone] if alone.circuit.name.is_none() => of_circuit(alone),
+        _ => {
+            let circuits: Vec<String> = measured.iter().map(of_circuit).collect();
+            object(&[("circuits", list(&circuits))])
+        }
+    };
+    report + "\n"
+}
+
+fn of_circuit(measured: &Measured) -> String {
+    let circuit = measured.circuit;
+    let name = circuit.name.iter().map(|name| ("name", text(name)));
+    let mut fields: Vec<Field> = name.collect();
+    if let Ok(config) = &circuit.config {
+        fields.extend(input(circuit, config));
+    }
     fields.extend(answered(&measured.run));
     if let (Ok(run), false) = (&measured.run, measured.continuations.is_empty()) {
         let then = measured.continuations.iter();
@@ -17,7 +35,7 @@ pub fn report(options: &Options, measured: &Measured) -> String {
             .collect();
         fields.push(("continuations", list(&then)));
     }
-    format!("{}\n", object(&fields))
+    object(&fields)
 }
 
 /// The results after so many windows more, and how far the rates are from those of the run.
@@ -30,31 +48,25 @@ fn continuation(more: usize, answer: &Answer, run: &SpectrumEstimate) -> String 
     object(&fields)
 }
 
-pub fn refused_settings(refused: &RefusedRun) -> String {
-    format!("{}\n", object(&[("refused", refusal(refused))]))
-}
-
 type Field = (&'static str, String);
 
 fn answered(answer: &Answer) -> Vec<Field> {
     match answer {
         Ok(estimate) => results(estimate),
-        Err(refused) => vec![("refused", refusal(refused))],
+        Err(Stopped::Refused(refused)) => vec![("refused", refusal(refused))],
+        Err(Stopped::Interrupted(run)) => unfinished(run),
     }
 }
 
-fn input(options: &Options) -> Vec<Field> {
-    let config = &options.config;
+fn input(circuit: &Circuit, config: &BenettinConfig) -> Vec<Field> {
+    let choice = &circuit.choice;
     vec![
-        ("system", text(options.choice.offer.name)),
-        ("parameters", floats(&options.choice.parameters)),
-        ("matrix", floats(&options.choice.matrix)),
-        (
-            "state_dimension",
-            options.choice.system.dimension().to_string(),
-        ),
-        ("initial_time", float(options.time)),
-        ("initial_state", floats(&options.state)),
+        ("system", text(choice.offer.name)),
+        ("parameters", floats(&choice.parameters)),
+        ("matrix", floats(&choice.matrix)),
+        ("state_dimension", choice.system.dimension().to_string()),
+        ("initial_time", float(circuit.time)),
+        ("initial_state", floats(&circuit.state)),
         ("top_k", config.top_k().to_string()),
         ("step_size", float(config.step_size())),
         ("steps_per_window", config.steps_per_window().to_string()),
@@ -69,21 +81,38 @@ fn results(estimate: &SpectrumEstimate) -> Vec<Field> {
     let exponents = estimate.exponents();
     let counts = estimate.faint_counts();
     let faint: Vec<String> = counts.iter().map(u64::to_string).collect();
-    vec![
+    let mut fields = vec![
         ("exponents", floats(exponents)),
         ("faint_counts", list(&faint)),
-        (
-            "kaplan_yorke_dimension",
-            optional(kaplan_yorke_dimension(exponents).ok()),
-        ),
-        (
-            "kolmogorov_sinai_entropy",
-            optional(kolmogorov_sinai_entropy(exponents).ok()),
-        ),
+    ];
+    fields.extend(diagnostics(exponents));
+    fields.extend([
         ("final_state", floats(estimate.final_state())),
         ("final_time", float(estimate.final_time())),
         ("measured_time", float(estimate.measured_time())),
         ("steps", estimate.steps().to_string()),
+    ]);
+    fields
+}
+
+/// The results of the finished windows. Without such windows there are no exponents.
+fn unfinished(run: &Unfinished) -> Vec<Field> {
+    let exponents = run.rates();
+    let mut fields = vec![
+        ("interrupted", "true".to_string()),
+        ("finished_windows", run.windows().count().to_string()),
+        ("exponents", floats(exponents)),
+    ];
+    fields.extend(diagnostics(exponents));
+    fields
+}
+
+fn diagnostics(exponents: &[f64]) -> [Field; 2] {
+    let dimension = kaplan_yorke_dimension(exponents).ok();
+    let entropy = kolmogorov_sinai_entropy(exponents).ok();
+    [
+        ("kaplan_yorke_dimension", optional(dimension)),
+        ("kolmogorov_sinai_entropy", optional(entropy)),
     ]
 }
 

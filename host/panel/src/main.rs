@@ -1,20 +1,27 @@
 //! The stability panel on the command line: rates, dimension, entropy and faint counts of a run.
 
 mod choice;
+mod circuit;
 mod json;
 mod measured;
 mod options;
+mod progress;
 mod rows;
 mod spectra;
 mod svg;
 mod text;
+mod turns;
 
-use field_lyapunov::{LyapunovError, RefusedRun};
-use measured::measured;
-use options::{Command, Options, Unfit};
+use measured::{measured, Measured};
+use options::{Command, Options};
 use std::io::Write as _;
-use std::path::Path;
+use std::path::{Path, PathBuf};
 use std::process::ExitCode;
+
+/// The exit status for unfit input and refused runs.
+const UNFIT: u8 = 2;
+/// The exit status of a program that an interrupt ends.
+const INTERRUPTED: u8 = 130;
 
 fn main() -> ExitCode {
     let words: Vec<String> = match words() {
@@ -27,19 +34,9 @@ fn main() -> ExitCode {
             print(&text)?;
             Ok(ExitCode::from(u8::from(!all_near)))
         })),
-        Ok(Command::Run(options)) => answer(run(&options)),
-        Err(Unfit::Words(message)) => unfit(&format!("{message}; see --help")),
-        Err(Unfit::Settings { error, json }) => answer(refused_settings(error, json)),
+        Ok(Command::Run(options)) => run(&options),
+        Err(message) => unfit(&format!("{message}; see --help")),
     }
-}
-
-/// Settings that the library refuses are told as a refused run is.
-fn refused_settings(error: LyapunovError, json: bool) -> Result<ExitCode, String> {
-    let refused = RefusedRun::from(error);
-    if json {
-        print(&json::refused_settings(&refused))?;
-    }
-    Err(text::refusal(None, &refused))
 }
 
 /// The words of the command line, which must be Unicode.
@@ -56,31 +53,45 @@ fn answer(status: Result<ExitCode, String>) -> ExitCode {
 }
 
 fn unfit(message: &str) -> ExitCode {
-    eprintln!("panel: {message}");
-    ExitCode::from(2)
+    tell(message);
+    ExitCode::from(UNFIT)
 }
 
-/// Prints what was measured, then writes the files that were asked for. A refused run has the
-/// windows that it finished.
-fn run(options: &Options) -> Result<ExitCode, String> {
-    let measured = measured(options);
-    let windows = measured.windows();
-    if options.json {
-        print(&json::report(options, &measured))?;
-    } else if let Ok(estimate) = &measured.run {
-        print(&text::report(options, &measured, estimate))?;
+/// Where nobody reads standard error, there is nobody to tell.
+fn tell(message: &str) {
+    let _ = writeln!(std::io::stderr(), "panel: {message}");
+}
+
+/// Prints what was measured, then writes the files that were asked for, even where nobody reads what
+/// is printed. A run that was refused or interrupted has the windows that it finished.
+fn run(options: &Options) -> ExitCode {
+    let (measured, around) = (measured(options), &options.around);
+    let report = if around.json {
+        json::report(&measured)
+    } else {
+        text::report(&measured)
+    };
+    let any_window = |_: &&PathBuf| measured.iter().any(|one| one.windows().next().is_some());
+    let rows = around.rows.as_ref().filter(any_window);
+    let svg = around.svg.as_ref().filter(any_window);
+    let done = [
+        print(&report),
+        rows.map_or(Ok(()), |file| write(file, &rows::csv(&measured))),
+        svg.map_or(Ok(()), |file| write(file, &svg::drawing(&measured))),
+    ];
+    let failures = done.into_iter().filter_map(Result::err);
+    let messages: Vec<String> = failures
+        .chain(measured.iter().flat_map(text::stops))
+        .collect();
+    for message in &messages {
+        tell(message);
     }
-    if let Some(file) = options.rows.as_ref().filter(|_| !windows.is_empty()) {
-        write(file, &rows::csv(&windows))?;
-    }
-    if let Some(file) = options.svg.as_ref().filter(|_| !windows.is_empty()) {
-        let (title, ends) = (options.choice.title(), measured.ends());
-        write(file, &svg::drawing(&title, &windows, &ends))?;
-    }
-    match text::refusals(&measured) {
-        refusals if refusals.is_empty() => Ok(ExitCode::SUCCESS),
-        refusals => Err(refusals.join("\npanel: ")),
-    }
+    let interrupted = measured.iter().any(Measured::interrupted);
+    ExitCode::from(match (interrupted, messages.is_empty()) {
+        (true, _) => INTERRUPTED,
+        (false, false) => UNFIT,
+        (false, true) => 0,
+    })
 }
 
 fn print(text: &str) -> Result<(), String> {

@@ -1,28 +1,39 @@
 //! The results for people.
 
-use crate::measured::{moved, Measured};
-use crate::options::Options;
+use crate::circuit::Circuit;
+use crate::measured::{moved, Measured, Stopped};
+use crate::turns::Unfinished;
 use field_lyapunov::{
-    kaplan_yorke_dimension, kolmogorov_sinai_entropy, LyapunovError, RefusedRun, SpectrumEstimate,
+    kaplan_yorke_dimension, kolmogorov_sinai_entropy, BenettinConfig, LyapunovError, RefusedRun,
+    SpectrumEstimate,
 };
 use std::fmt::Write as _;
 
-pub fn report(options: &Options, measured: &Measured, estimate: &SpectrumEstimate) -> String {
-    let mut text = input(options);
-    text.push_str("\ndirection            rate    faint windows\n");
-    let rates = estimate.exponents().iter().zip(estimate.faint_counts());
-    for (direction, (rate, faint)) in rates.enumerate() {
-        let _ = writeln!(
-            text,
-            "{direction:>9}  {:>14}  {faint:>15}",
-            decimal(*rate, 6)
-        );
-    }
-    text.push('\n');
-    let dimension = kaplan_yorke_dimension(estimate.exponents());
-    let _ = writeln!(text, "Kaplan-Yorke dimension     {}", number(dimension));
-    let entropy = kolmogorov_sinai_entropy(estimate.exponents());
-    let _ = writeln!(text, "Kolmogorov-Sinai entropy   {}", number(entropy));
+/// A section a circuit; a single run that is refused has none.
+pub fn report(measured: &[Measured]) -> String {
+    let sections: Vec<String> = measured.iter().map(section).collect();
+    sections.join("\n")
+}
+
+fn section(measured: &Measured) -> String {
+    let circuit = measured.circuit;
+    let heading = match &circuit.name {
+        Some(name) => format!("circuit {name}\n"),
+        None => String::new(),
+    };
+    let results = match &measured.run {
+        Ok(estimate) => ended(measured, estimate),
+        Err(Stopped::Interrupted(run)) => unfinished(run),
+        Err(Stopped::Refused(_)) if heading.is_empty() => return String::new(),
+        Err(Stopped::Refused(_)) => String::new(),
+    };
+    let stop = stop(measured).map_or(String::new(), |words| words + "\n");
+    format!("{heading}{}\n{results}{stop}", input(circuit))
+}
+
+fn ended(measured: &Measured, estimate: &SpectrumEstimate) -> String {
+    let faint = |direction: usize| estimate.faint_counts()[direction].to_string();
+    let mut text = rates(estimate.exponents(), faint);
     let (time, duration) = (estimate.final_time(), estimate.measured_time());
     let steps = estimate.steps();
     let _ = writeln!(
@@ -30,7 +41,31 @@ pub fn report(options: &Options, measured: &Measured, estimate: &SpectrumEstimat
         "measured time {duration}, final time {time}, steps {steps}"
     );
     text.push_str(&continuations(measured, estimate));
-    text.push_str(&warning(options, measured.longest(estimate)));
+    text.push_str(&warning(measured.circuit, measured.longest(estimate)));
+    text
+}
+
+/// The rates of the finished windows; nothing where there are none. Faint windows are told at the
+/// end of a run.
+fn unfinished(run: &Unfinished) -> String {
+    match run.rates() {
+        [] => String::new(),
+        finished => rates(finished, |_| "not known".to_string()),
+    }
+}
+
+/// The rates with their faint counts, the dimension and the entropy.
+fn rates(rates: &[f64], faint: impl Fn(usize) -> String) -> String {
+    let mut text = String::from("direction            rate    faint windows\n");
+    for (direction, rate) in rates.iter().enumerate() {
+        let (rate, faint) = (decimal(*rate, 6), faint(direction));
+        let _ = writeln!(text, "{direction:>9}  {rate:>14}  {faint:>15}");
+    }
+    text.push('\n');
+    let dimension = kaplan_yorke_dimension(rates);
+    let _ = writeln!(text, "Kaplan-Yorke dimension     {}", number(dimension));
+    let entropy = kolmogorov_sinai_entropy(rates);
+    let _ = writeln!(text, "Kolmogorov-Sinai entropy   {}", number(entropy));
     text
 }
 
@@ -61,21 +96,22 @@ fn continuations(measured: &Measured, run: &SpectrumEstimate) -> String {
     format!("\nrates after so many windows more, and how they moved\n{heading}\n{lines}\n")
 }
 
-fn input(options: &Options) -> String {
-    let config = &options.config;
-    let state: Vec<String> = options.state.iter().map(f64::to_string).collect();
-    format!(
-        "{}\nfrom ({}) at time {}\nstep size {}, steps a window {}, windows {} after {} of \
-         warm-up, seed 0x{:016x}\n",
-        options.choice.title(),
-        state.join(", "),
-        options.time,
-        config.step_size(),
-        config.steps_per_window(),
-        config.windows(),
-        config.transient_windows(),
-        config.seed()
-    )
+fn input(circuit: &Circuit) -> String {
+    let state: Vec<String> = circuit.state.iter().map(f64::to_string).collect();
+    let (title, state, time) = (circuit.choice.title(), state.join(", "), circuit.time);
+    let mut text = format!("{title}\nfrom ({state}) at time {time}\n");
+    if let Ok(config) = &circuit.config {
+        let _ = writeln!(
+            text,
+            "step size {}, steps a window {}, windows {} after {} of warm-up, seed 0x{:016x}",
+            config.step_size(),
+            config.steps_per_window(),
+            config.windows(),
+            config.transient_windows(),
+            config.seed()
+        );
+    }
+    text
 }
 
 /// With `digits` after the point, and with an exponent where it is long before the point.
@@ -85,6 +121,19 @@ pub fn decimal(x: f64, digits: usize) -> String {
     } else {
         format!("{x:.digits$e}")
     }
+}
+
+/// With a comma before every three digits.
+pub fn grouped(number: u64) -> String {
+    let digits = number.to_string();
+    let mut text = String::new();
+    for (at, digit) in digits.chars().enumerate() {
+        if at > 0 && (digits.len() - at).is_multiple_of(3) {
+            text.push(',');
+        }
+        text.push(digit);
+    }
+    text
 }
 
 /// A dimension or an entropy. The entropy of a spectrum without a positive rate is −0.0, which a
@@ -97,12 +146,12 @@ fn number(answer: field_lyapunov::Result<f64>) -> String {
 }
 
 /// What faint counts mean and what to do about them; nothing where all are 0.
-fn warning(options: &Options, estimate: &SpectrumEstimate) -> String {
+fn warning(circuit: &Circuit, estimate: &SpectrumEstimate) -> String {
     let counts = estimate.faint_counts();
-    let Some(first) = counts.iter().position(|count| *count > 0) else {
+    let first = counts.iter().position(|count| *count > 0);
+    let (Some(first), Ok(config)) = (first, &circuit.config) else {
         return String::new();
     };
-    let config = &options.config;
     let all = estimate.steps() / config.steps_per_window() as u64;
     let count = counts[first];
     format!(
@@ -133,7 +182,7 @@ fn option(error: &LyapunovError, then: Option<usize>) -> &'static str {
 }
 
 /// A refused run, or a refused continuation by so many windows.
-pub fn refusal(then: Option<usize>, run: &RefusedRun) -> String {
+fn refusal(then: Option<usize>, run: &RefusedRun) -> String {
     let error = run.error();
     let name = then.map_or(String::new(), |more| format!("--then {more}: "));
     let (words, option) = (refused(&error), option(&error, then));
@@ -141,12 +190,72 @@ pub fn refusal(then: Option<usize>, run: &RefusedRun) -> String {
     format!("{name}{words}{option} (finished windows: {windows}, steps: {steps})")
 }
 
-/// All that was refused.
-pub fn refusals(measured: &Measured) -> Vec<String> {
-    let run = measured.run.as_ref().err().map(|run| refusal(None, run));
-    let then = measured.continuations.iter().filter_map(|(more, answer)| {
-        let refused = answer.as_ref().err()?;
-        Some(refusal(Some(*more), refused))
-    });
-    run.into_iter().chain(then).collect()
+/// How far an interrupted run came, and what that means for its rates.
+fn interruption(circuit: &Circuit, run: &Unfinished) -> [String; 2] {
+    let counts = |config: &BenettinConfig| [config.transient_windows(), config.windows()];
+    let counts = circuit.config.as_ref().map_or([0, 0], counts);
+    let [warm_up, windows] = counts.map(|count| count as u64);
+    let (done, all, of, rates) = match run.begun().saturating_sub(warm_up) {
+        0 => (
+            run.begun(),
+            warm_up,
+            "windows of warm-up",
+            "there are no rates yet",
+        ),
+        finished => (
+            finished,
+            windows,
+            "windows",
+            "the rates are those of the finished windows",
+        ),
+    };
+    let (done, all) = (grouped(done), grouped(all));
+    [
+        format!("interrupted after {done} of {all} {of}"),
+        rates.to_string(),
+    ]
+}
+
+/// Why the run did not make all its windows; `None` where it did.
+fn stop(measured: &Measured) -> Option<String> {
+    Some(match measured.run.as_ref().err()? {
+        Stopped::Refused(refused) => refusal(None, refused),
+        Stopped::Interrupted(run) => interruption(measured.circuit, run).join(": "),
+    })
+}
+
+/// The beginning of it, for a line of a drawing.
+pub fn short_stop(measured: &Measured) -> Option<String> {
+    Some(match measured.run.as_ref().err()? {
+        Stopped::Refused(run) => refused(&run.error()),
+        Stopped::Interrupted(run) => {
+            let [how_far, _] = interruption(measured.circuit, run);
+            how_far
+        }
+    })
+}
+
+/// Why the run and its continuations did not make all their windows, with the circuit's name.
+pub fn stops(measured: &Measured) -> Vec<String> {
+    let then = measured
+        .continuations
+        .iter()
+        .filter_map(|(more, answer)| match answer {
+            Err(Stopped::Refused(refused)) => Some(refusal(Some(*more), refused)),
+            _ => None,
+        });
+    let named = |words| match &measured.circuit.name {
+        Some(name) => format!("{name}: {words}"),
+        None => words,
+    };
+    stop(measured).into_iter().chain(then).map(named).collect()
+}
+
+#[cfg(test)]
+mod tests {
+    #[test]
+    fn digits_in_groups_of_three() {
+        let texts = [0, 12, 999, 1_000, 16_777_216].map(super::grouped);
+        assert_eq!(texts, ["0", "12", "999", "1,000", "16,777,216"]);
+    }
 }

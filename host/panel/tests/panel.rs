@@ -1,5 +1,7 @@
 //! The panel as a user meets it: words in, text and exit status out.
 
+mod circuits;
+mod interrupt;
 mod json;
 
 use std::fs;

@@ -2,8 +2,8 @@
 
 use crate::tokens::{Kind, Token};
 
-/// The types of single numbers: a slice of them that is lent is the one use of brackets, beside
-/// attributes and indices, that is no array.
+/// The types of single numbers: a slice of them, or of a type parameter, that is lent is the one use of
+/// brackets, beside attributes and indices, that is no array.
 const NUMBERS: [&str; 13] = [
     "u8", "u16", "u32", "u64", "usize", "i8", "i16", "i32", "i64", "isize", "f32", "f64", "bool",
 ];
@@ -35,24 +35,49 @@ fn is_attribute_or_index(before: &[&Token]) -> bool {
     match &last.kind {
         Kind::Word(word) => !KEYWORDS.contains(&word.as_str()),
         // An attribute of a whole file begins with `#!`.
-        Kind::Sign('!') => before.iter().rev().nth(1).is_some_and(|sign| sign.is_sign('#')),
+        Kind::Sign('!') => before
+            .iter()
+            .rev()
+            .nth(1)
+            .is_some_and(|sign| sign.is_sign('#')),
         Kind::Sign(sign) => ['#', ')', ']'].contains(sign),
         _ => false,
     }
 }
 
-/// Whether the bracket at `at` begins `[T]` behind `&` or `&mut`, for numbers T.
+/// Whether the bracket at `at` begins `[T]` behind `&` or `&mut`, for numbers T or a type parameter T of
+/// the function that it stands in.
 fn is_slice(code: &[&Token], at: usize) -> bool {
     let lent = match &code[..at] {
         [.., and, word] if word.word() == Some("mut") => and.is_sign('&'),
         [.., and] => and.is_sign('&'),
         [] => false,
     };
-    let of_numbers = match &code[at + 1..] {
-        [of, end, ..] => of.word().is_some_and(|of| NUMBERS.contains(&of)) && end.is_sign(']'),
+    let is_type = |of: &str| NUMBERS.contains(&of) || type_parameters(&code[..at]).contains(&of);
+    let of_a_type = match &code[at + 1..] {
+        [of, end, ..] => of.word().is_some_and(is_type) && end.is_sign(']'),
         _ => false,
     };
-    lent && of_numbers
+    lent && of_a_type
+}
+
+/// The type parameters of the last function before: a name behind `<` or a comma is one, a lifetime or
+/// a const parameter has another word or sign before its name.
+fn type_parameters<'a>(before: &[&'a Token]) -> Vec<&'a str> {
+    let Some(function) = before.iter().rposition(|token| token.word() == Some("fn")) else {
+        return Vec::new();
+    };
+    let generics = &before[before.len().min(function + 2)..];
+    if !generics.first().is_some_and(|token| token.is_sign('<')) {
+        return Vec::new();
+    }
+    let end = generics.iter().position(|token| token.is_sign('>'));
+    let names = generics[..end.unwrap_or(generics.len())].windows(2);
+    names
+        .filter(|pair| pair[0].is_sign('<') || pair[0].is_sign(','))
+        .filter_map(|pair| pair[1].word())
+        .filter(|name| *name != "const")
+        .collect()
 }
 
 /// The tokens without `ghost use` lines and without the clauses of contracts.
@@ -121,7 +146,9 @@ mod tests {
             pub fn first<'a>(xs: &[f64], ys: &mut [u64], i: usize) -> f64
                 requires { ⌜ xs ≡ [] × record { a = [] } ⌝ }
                 ensures read { λ r. ⌜ r ≡ [] ⌝ }
-            { (xs)[i] + ys[xs[i]][0] }";
+            { (xs)[i] + ys[xs[i]][0] }
+            pub fn copy<'a, const N: usize, T: Copy>(out: &mut [T], from: &'a [T]) {}
+            pub fn count(xs: &[usize]) {}";
         assert_eq!(lines(text), [0; 0]);
     }
 
@@ -139,6 +166,11 @@ mod tests {
             "if ![x][0] {}",
             "fn f(x: [f64; 3]) {}",
             "fn f(x: &[f64; 3]) {}",
+            "fn f<T: Copy>(x: &[T; 3]) {}",
+            "fn f<T: Copy>(x: [T; 3]) {}",
+            "fn f<T: Copy>() { g(&[L1]) }",
+            "fn f<const L1: u64>() { g(&[L1]) }",
+            "fn f() { g(&[T]) }",
             "b\"table\"",
         ] {
             assert_eq!(lines(&format!("\n{array}"))[..1], [2], "{array}");

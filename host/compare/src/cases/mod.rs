@@ -1,11 +1,13 @@
 //! The kinds of cases: what is handed in, and what the library, the model and the source answer.
 
+pub mod dispatcher;
 mod leaves;
 mod orth;
 mod program;
 mod rates;
 mod run;
 mod settings;
+mod slices;
 mod step;
 mod store;
 mod validate;
@@ -16,6 +18,7 @@ pub use program::Program;
 pub use rates::Rates;
 pub use run::{Outcome, Run};
 pub use settings::Build;
+pub use slices::Slices;
 pub use step::Step;
 pub use store::{Call, Memory, Reference};
 pub use validate::Validate;
@@ -63,6 +66,37 @@ pub fn line(kind: &str, id: &str, input: &str, answer: &Answer, remark: &str) ->
     let words = [kind, &id, input, "->", &answer, "#", remark];
     let words: Vec<&str> = words.into_iter().filter(|word| !word.is_empty()).collect();
     words.join(" ")
+}
+
+/// A call that stands in a list with others of one memory, which they change in their order.
+pub trait Listed: Sized {
+    /// The first is the call that empties the memory.
+    const KINDS: [&'static str; 4];
+
+    type Memory: Default;
+
+    fn kind(&self) -> &'static str;
+
+    /// The fields of its answer, in their order.
+    fn answer(&self) -> &'static [&'static str];
+
+    fn read(kind: &str, fields: &mut Fields) -> Result<Self, String>;
+
+    /// What is handed in, as it stands in a line.
+    fn written(&self) -> String;
+
+    /// What the library answers. An error is memory that it must not write.
+    fn library(&self, memory: &mut Self::Memory) -> Result<Answer, String>;
+
+    /// An error where the list asks for memory that is not there.
+    fn test(&self, _: &Self::Memory) -> Result<(), String> {
+        Ok(())
+    }
+
+    /// A line of a list of cases.
+    fn line(&self, id: &str, answer: &Answer, remark: &str) -> String {
+        line(self.kind(), id, &self.written(), answer, remark)
+    }
 }
 
 /// A case that functions of the proved library answer.

@@ -1,6 +1,6 @@
 //! A whole run.
 
-use super::{settings, turn_in, Called, Case};
+use super::{settings, turn_in, Called, Case, Slices};
 use crate::circuit::Circuit;
 use crate::lent::Lent;
 use crate::line::Fields;
@@ -44,18 +44,13 @@ impl Case for Run {
     ];
 
     fn read(fields: &mut Fields) -> Result<Self, String> {
-        Ok(Self {
-            rows: fields.size("rowslen")?,
-            exponents: fields.size("expslen")?,
-            final_state: fields.size("finallen")?,
-            ..Self::read_input(fields)?
-        })
+        let lengths = Slices::read(fields)?;
+        Ok(Self::read_input(fields)?.with_lengths(&lengths))
     }
 
     fn written(&self) -> String {
-        let (rows, exponents, final_state) = (self.rows, self.exponents, self.final_state);
-        let input = self.written_input();
-        format!("{input} rowslen={rows} expslen={exponents} finallen={final_state}")
+        let (input, lengths) = (self.written_input(), self.lengths().written());
+        format!("{input} {lengths}")
     }
 
     fn model(&self) -> Answer {
@@ -117,13 +112,23 @@ impl Run {
     /// What is handed in apart from the outputs; these just fit.
     pub fn read_input(fields: &mut Fields) -> Result<Self, String> {
         let circuit = Circuit::read(fields)?;
+        Self::read_of(circuit, fields)
+    }
+
+    /// The same of a circuit that is read already.
+    pub fn read_of(circuit: Circuit, fields: &mut Fields) -> Result<Self, String> {
         let settings = settings::read(fields)?;
         let (time, state) = (fields.float("t0")?, fields.floats("x0")?);
         Ok(Self::fitting(circuit, settings, time, state))
     }
 
     pub fn written_input(&self) -> String {
-        let (circuit, settings) = (self.circuit.written(), settings::written(&self.settings));
+        self.written_of(&self.circuit.written())
+    }
+
+    /// The same of a circuit as it is written.
+    pub fn written_of(&self, circuit: &str) -> String {
+        let settings = settings::written(&self.settings);
         let (time, state) = (bits(&self.time), list(&self.state, ",", bits));
         format!("{circuit} {settings} t0={time} x0={state}")
     }
@@ -173,42 +178,42 @@ impl Run {
         &self,
         call: impl FnOnce(&mut model::Outputs) -> Option<model::Estimate>,
     ) -> Option<Answer> {
-        let [mut rows, mut exponents, mut final_state] =
-            [self.rows, self.exponents, self.final_state].map(|length| vec![FILLING; length]);
-        let estimate = call(&mut model::Outputs {
-            rows: &mut rows,
-            exponents: &mut exponents,
-            final_state: &mut final_state,
-        })?;
-        let outcome = Outcome {
-            refusal: estimate.refusal.unwrap_or(Refusal::NONE),
-            finished: estimate.finished,
-            steps: estimate.steps,
-            faint: estimate.faint.to_vec(),
-            final_time: estimate.final_time,
-            measured_time: estimate.measured_time,
-            rows,
-            exponents,
-            final_state,
-        };
-        Some(outcome.answer())
+        let mut slices = self.lengths().filled();
+        let estimate = call(&mut slices.for_model())?;
+        Some(Outcome::of_model(&estimate, slices).answer())
     }
 
     /// The answer of a run that is refused before it begins.
     pub fn answer_untouched(&self, refusal: Refusal) -> Answer {
-        let nothing = |length: usize| vec![FILLING; length];
-        let outcome = Outcome {
-            refusal,
-            finished: 0,
-            steps: 0,
-            faint: vec![0; MAX_DIMENSION],
-            final_time: 0.0,
-            measured_time: 0.0,
-            rows: nothing(self.rows),
-            exponents: nothing(self.exponents),
-            final_state: nothing(self.final_state),
-        };
-        outcome.answer()
+        Outcome::untouched(refusal, self.lengths().filled()).answer()
+    }
+
+    /// What the model is handed.
+    pub fn input(&self) -> model::Input<'_> {
+        model::Input {
+            system: &self.circuit.system,
+            time: self.time,
+            state: &self.state,
+            settings: &self.settings,
+        }
+    }
+
+    pub fn lengths(&self) -> Slices<usize> {
+        Slices {
+            rows: self.rows,
+            exponents: self.exponents,
+            final_state: self.final_state,
+        }
+    }
+
+    /// The same run with outputs of these lengths.
+    pub fn with_lengths(self, lengths: &Slices<usize>) -> Self {
+        Self {
+            rows: lengths.rows,
+            exponents: lengths.exponents,
+            final_state: lengths.final_state,
+            ..self
+        }
     }
 
     /// The library's run.
@@ -224,37 +229,15 @@ impl Run {
         let arguments = self.circuit.arguments();
         let matrix = Lent::input("mat", arguments.matrix);
         let state = Lent::input("x0", &self.state);
-        let mut rows = Lent::<f64>::output("rows", self.rows);
-        let mut exponents = Lent::<f64>::output("exps", self.exponents);
-        let mut final_state = Lent::<f64>::output("final", self.final_state);
-        let mut counts = Lent::<u64>::output("counts", 19);
-        let mut times = Lent::<f64>::output("times", 2);
-        let mut outputs = Outputs {
-            rows: rows.slice_mut(),
-            exponents: exponents.slice_mut(),
-            final_state: final_state.slice_mut(),
-            counts: counts.array_mut(),
-            times: times.array_mut(),
-        };
         let lent = Arguments {
             matrix: matrix.slice(),
             ..arguments
         };
-        let number = call(lent, state.slice(), &mut outputs);
+        let mut slices = self.lengths().lent();
+        let outcome = slices.to(|outputs| call(lent, state.slice(), outputs))?;
         matrix.unchanged(arguments.matrix)?;
         state.unchanged(&self.state)?;
-        let (counts, times) = (counts.returned()?, times.returned()?);
-        Ok(Outcome {
-            refusal: Refusal::at(number, counts[0]),
-            finished: counts[1],
-            steps: counts[2],
-            faint: counts[3..].to_vec(),
-            final_time: times[0],
-            measured_time: times[1],
-            rows: rows.returned()?,
-            exponents: exponents.returned()?,
-            final_state: final_state.returned()?,
-        })
+        Ok(outcome)
     }
 
     fn run_of_library(&self, system: Arguments, state: &[f64], outputs: &mut Outputs) -> u64 {
@@ -281,7 +264,7 @@ impl Run {
         Some(answer.map("rows", |rows| rows.without_first(before)))
     }
 
-    fn has_short_output(&self) -> bool {
+    pub fn has_short_output(&self) -> bool {
         self.rows < self.settings.rows_length()
             || self.exponents < self.settings.top_k
             || self.final_state < self.circuit.dimension()
@@ -345,6 +328,42 @@ impl Run {
 }
 
 impl Outcome {
+    /// What a run of the model answers, and leaves in its slices.
+    pub fn of_model(estimate: &model::Estimate, slices: Slices<Vec<f64>>) -> Self {
+        Self {
+            refusal: estimate.refusal.unwrap_or(Refusal::NONE),
+            finished: estimate.finished,
+            steps: estimate.steps,
+            faint: estimate.faint.to_vec(),
+            final_time: estimate.final_time,
+            measured_time: estimate.measured_time,
+            rows: slices.rows,
+            exponents: slices.exponents,
+            final_state: slices.final_state,
+        }
+    }
+
+    /// What a run answers that is refused before it begins.
+    pub fn untouched(refusal: Refusal, slices: Slices<Vec<f64>>) -> Self {
+        let nothing = model::Estimate {
+            refusal: Some(refusal),
+            finished: 0,
+            steps: 0,
+            faint: [0; MAX_DIMENSION],
+            final_time: 0.0,
+            measured_time: 0.0,
+        };
+        Self::of_model(&nothing, slices)
+    }
+
+    pub fn slices(self) -> Slices<Vec<f64>> {
+        Slices {
+            rows: self.rows,
+            exponents: self.exponents,
+            final_state: self.final_state,
+        }
+    }
+
     pub fn answer(self) -> Answer {
         let times = [self.final_time, self.measured_time];
         let [final_time, measured_time] = times.map(|time| self.time(time));

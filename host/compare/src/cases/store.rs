@@ -1,12 +1,11 @@
 //! Calls of a store, which keeps states under numbers.
 
-use super::{Case, Outcome, Run};
+use super::{Case, Listed, Outcome, Run};
 use crate::lent::{Lent, FILLING};
 use crate::line::Fields;
 use crate::values::Answer;
 use input::Refusal;
 use lyapunov_sys::{StoreMut, StoreRef, STORE_COUNTS, STORE_FLOATS, STORE_STATES};
-use model::Input;
 use oracle::Source;
 
 /// A call of a store.
@@ -18,10 +17,12 @@ pub enum Call {
     Forget(u8),
 }
 
-impl Call {
-    pub const KINDS: [&'static str; 4] = ["empty", "keep", "go-on", "forget"];
+impl Listed for Call {
+    const KINDS: [&'static str; 4] = ["empty", "keep", "go-on", "forget"];
 
-    pub fn kind(&self) -> &'static str {
+    type Memory = Memory;
+
+    fn kind(&self) -> &'static str {
         Self::KINDS[match self {
             Self::Empty => 0,
             Self::Keep(..) => 1,
@@ -30,8 +31,7 @@ impl Call {
         }]
     }
 
-    /// The fields of its answer, in their order.
-    pub fn answer(&self) -> &'static [&'static str] {
+    fn answer(&self) -> &'static [&'static str] {
         match self {
             Self::Empty => &[],
             Self::Keep(..) | Self::GoOn(..) => Run::ANSWER,
@@ -39,7 +39,7 @@ impl Call {
         }
     }
 
-    pub fn read(kind: &str, fields: &mut Fields) -> Result<Self, String> {
+    fn read(kind: &str, fields: &mut Fields) -> Result<Self, String> {
         if kind == Self::KINDS[0] {
             return Ok(Self::Empty);
         }
@@ -54,8 +54,7 @@ impl Call {
         }
     }
 
-    /// What is handed in, as it stands in a line.
-    pub fn written(&self) -> String {
+    fn written(&self) -> String {
         match self {
             Self::Empty => String::new(),
             Self::Keep(number, run) | Self::GoOn(number, run) => {
@@ -65,9 +64,8 @@ impl Call {
         }
     }
 
-    /// A line of a list of cases.
-    pub fn line(&self, id: &str, answer: &Answer, remark: &str) -> String {
-        super::line(self.kind(), id, &self.written(), answer, remark)
+    fn library(&self, memory: &mut Memory) -> Result<Answer, String> {
+        memory.answer(self)
     }
 }
 
@@ -101,7 +99,8 @@ impl Reference {
     /// The source has no 27.
     fn keep(&mut self, number: u8, run: &Run, source: Option<&dyn Source>) -> Option<Answers> {
         let store = &mut self.store;
-        let model = run.answer_of_model(|outputs| Some(store.keep(number, input(run), outputs)))?;
+        let model =
+            run.answer_of_model(|outputs| Some(store.keep(number, run.input(), outputs)))?;
         let source = source.filter(|_| model.number() != 27);
         let source = source.and_then(|source| run.source(source));
         Some((model, source))
@@ -110,19 +109,10 @@ impl Reference {
     /// The source has no 26. It makes the windows that were kept and those to come in one run.
     fn go_on(&self, number: u8, run: &Run, source: Option<&dyn Source>) -> Option<Answers> {
         let store = &self.store;
-        let model = run.answer_of_model(|outputs| store.go_on(number, input(run), outputs))?;
+        let model = run.answer_of_model(|outputs| store.go_on(number, run.input(), outputs))?;
         let known = source.zip(store.windows(number));
         let source = known.and_then(|(source, earlier)| run.later_by_source(source, earlier));
         Some((model, source))
-    }
-}
-
-fn input(run: &Run) -> Input<'_> {
-    Input {
-        system: &run.circuit.system,
-        time: run.time,
-        state: &run.state,
-        settings: &run.settings,
     }
 }
 

@@ -1,5 +1,6 @@
 //! What happens in a list of calls of a store: the labels that a comparison counts.
 
+use super::lists::Label;
 use crate::cases::{Call, Run};
 use crate::circuit::KINDS;
 use crate::values::Answer;
@@ -24,9 +25,6 @@ pub struct Events {
     /// One of eight was forgotten.
     made_room: bool,
 }
-
-/// A number of a refusal, and what the call was.
-pub type Label = (u64, String);
 
 impl Events {
     /// Takes notice of a call; answers the labels that it is counted under. Without an answer it is

@@ -1,6 +1,7 @@
 //! Random bytes as calls of every exported function. Each answer, every slice that was lent and
 //! the borders around it are compared with the model of document 01.
 
+mod dispatcher;
 mod store;
 
 use crate::bytes::{self, Bytes};
@@ -74,7 +75,7 @@ fn calls(limits: &Limits, met: &mut Met) -> Result<(), String> {
 /// The function that the bytes call, and the number of its refusal, or what differs.
 fn one(bytes: &mut Bytes) -> (&'static str, Result<u64, String>) {
     let draw = |state| compared(&Draw { state, turns: 1 });
-    match bytes.below(29) {
+    match bytes.below(36) {
         0 => ("sqrt", compared(&Root(any(bytes)))),
         1 => ("ln", compared(&Log(any(bytes)))),
         2 => ("splitmix64_next", draw(bytes.number())),
@@ -92,7 +93,8 @@ fn one(bytes: &mut Bytes) -> (&'static str, Result<u64, String>) {
         16 | 17 => ("estimate_spectrum", compared(&run(bytes, Run::at_zero))),
         18 | 19 => ("estimate_largest", compared(&run(bytes, Run::largest))),
         20 | 21 => ("validate", compared(&Validate(run(bytes, |run| run)))),
-        _ => store::one(bytes),
+        22..=28 => store::one(bytes),
+        _ => dispatcher::one(bytes),
     }
 }
 

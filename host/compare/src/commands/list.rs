@@ -2,10 +2,11 @@
 
 use super::many::{run_label, step_label, unlabelled};
 use crate::cases::{
-    Build, Case, Draw, Log, Orth, Program, Rates, Reference, Root, Run, Step, Turned, Validate,
+    dispatcher, Build, Case, Draw, Listed, Log, Orth, Program, Rates, Reference, Root, Run, Step,
+    Turned, Validate,
 };
 use crate::circuit::{Systems, RING};
-use crate::generate::{self, counts, edges, kept, patterns, seeds};
+use crate::generate::{self, counts, edges, kept, patterns, seeds, turns};
 use crate::random::Random;
 use crate::tally::Tally;
 use crate::values::Answer;
@@ -27,6 +28,7 @@ const HEADER: &str = "\
 # parted by commas, - is the empty list or no value, and . is an entry of an output that keeps
 # what it held. An answered NaN stands for every NaN. Each case stands for itself, but those of the
 # kinds empty, keep, go-on and forget: these are calls of one store in the order of their lines.
+# Those of the kinds dispatcher, hand-in, next and turn are calls of one dispatcher in their order.
 ";
 
 /// What stands before the cases of request a.
@@ -57,6 +59,17 @@ const SUMS: &str = "\
 # sums from +0.0, which the remark tells, and spectra without a rate above 0.
 ";
 
+/// What stands before the cases of request f.
+const DISPATCHED: &str = "\
+# Runs side by side: document 02's request f. There is one dispatcher. dispatcher makes one without
+# runs. hand-in is a run, with the fields of one but the matrix and the outputs; it answers the name, 8
+# where it is refused. next answers whose turn is next, 8 for nobody. turn is one window of that run,
+# which is lent mat and the outputs numbered set=0 to 15: fresh=1 makes these anew, fresh=0 lends them
+# as the last turn left them. It answers its stage (nobody, unfit, under-way or over), the windows of
+# that run that were begun, and all of the three outputs after it; what a run answers beside them is
+# told once it is over. by=oracle: the source made that run alone. by=model: it has no turns.
+";
+
 /// Lines longer than this are not taken from the random inputs.
 const LONGEST: usize = 1200;
 
@@ -77,6 +90,7 @@ pub fn write_list() -> Result<String, String> {
     list.counts()?;
     list.kept()?;
     list.sums()?;
+    list.dispatched()?;
     println!("{} cases, {} bytes", list.cases, list.text.len());
     Ok(list.text)
 }
@@ -334,6 +348,21 @@ impl List {
         for (call, remark) in kept::calls() {
             let answers = reference.answers(&call, Some(self.source));
             let (model, source) = answers.ok_or_else(|| format!("free: {}", call.written()))?;
+            self.add_agreed(&model, source, |id, by| {
+                call.line(id, &model, &format!("by={by}, {remark}"))
+            })?;
+        }
+        Ok(())
+    }
+
+    /// Calls of one dispatcher.
+    fn dispatched(&mut self) -> Result<(), String> {
+        self.text.push_str(DISPATCHED);
+        let mut reference = dispatcher::Reference::default();
+        for (call, remark) in turns::calls() {
+            let (model, alone) = reference.answers(&call);
+            let source = alone.and_then(|run| run.source(self.source));
+            let source = source.map(|answer| call.part_of(answer));
             self.add_agreed(&model, source, |id, by| {
                 call.line(id, &model, &format!("by={by}, {remark}"))
             })?;

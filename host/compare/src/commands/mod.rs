@@ -1,19 +1,22 @@
 //! The commands. Each prints what it compared and answers whether nothing differed.
 
+mod dispatch;
 mod events;
 mod fuzz;
 mod leaves;
 mod list;
+mod lists;
 mod many;
 mod pairs;
 mod replay;
 mod stores;
 
+pub use dispatch::dispatch;
 pub use fuzz::{fuzz, Limits};
 pub use leaves::leaves;
 pub use list::write_list;
 pub use many::{from_zero, orthonormalise, rates, runs, settings, step, validate};
-pub use pairs::{later_pairs, pairs};
+pub use pairs::{dispatched_pairs, later_pairs, pairs};
 pub use replay::replay;
 pub use stores::stores;
 

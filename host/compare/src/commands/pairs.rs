@@ -1,7 +1,8 @@
-//! Demand 3 by running: a run for k exponents and one for K, all else equal, in one go or kept and
-//! gone on.
+//! Demand 3 by running: a run for k exponents and one for K, all else equal, in one go, kept and gone
+//! on, or by turns in a dispatcher.
 
 use super::{Differences, Inputs};
+use crate::cases::dispatcher::{self, Lending, Turned, UNDER_WAY};
 use crate::cases::{Call, Case, Memory, Outcome, Run};
 use crate::circuit::{Systems, RING};
 use crate::generate;
@@ -9,12 +10,29 @@ use crate::random::Random;
 use crate::tally::{Sizes, Tally};
 use crate::values::{same, same_list};
 use input::Refusal;
+use std::collections::BTreeMap;
 
 /// How the two runs of a pair compare.
 const EQUAL: &str = ", equal";
 const NOT_EQUAL: &str = " at a direction k or above, not equal";
 
 pub fn pairs(inputs: Inputs) -> bool {
+    of_runs("pairs", inputs, |pair, _| pair.each(Run::outcome))
+}
+
+/// Pairs of runs that each have turns in a dispatcher, with other runs before and behind them.
+pub fn dispatched_pairs(inputs: Inputs) -> bool {
+    of_runs("dispatched pairs", inputs, |pair, random| {
+        pair.each(|run| beside_others(run, random))
+    })
+}
+
+/// Pairs whose two runs are made by `outcomes`.
+fn of_runs(
+    name: &str,
+    inputs: Inputs,
+    outcomes: impl Fn(&Pair, &mut Random) -> Result<[Outcome; 2], String>,
+) -> bool {
     let mut random = inputs.random();
     let mut met = Met::default();
     let mut index = 0;
@@ -24,10 +42,10 @@ pub fn pairs(inputs: Inputs) -> bool {
         let Some(pair) = Pair::of(run, &mut random) else {
             continue;
         };
-        let outcomes = pair.each(Run::outcome);
+        let outcomes = outcomes(&pair, &mut random);
         met.judge(&pair, outcomes, "");
     }
-    met.report("pairs", &inputs, &expected(inputs.systems))
+    met.report(name, &inputs, &expected(inputs.systems))
 }
 
 /// Pairs of runs that are both kept, and then go on for the same number of windows. Each counts as
@@ -72,6 +90,60 @@ fn kept_and_gone_on(number: u8, run: &Run, later: u64) -> Result<Option<Outcome>
     let mut outcome = store.gone_on(number, &brought)?;
     outcome.rows.splice(..0, kept.rows);
     Ok(Some(outcome))
+}
+
+/// The run in a dispatcher where others have their turns too.
+fn beside_others(run: &Run, random: &mut Random) -> Result<Outcome, String> {
+    let mut side_by_side = SideBySide::default();
+    side_by_side.memory.answer(&dispatcher::Call::Empty)?;
+    side_by_side.add_others(random)?;
+    let (refusal, name) = side_by_side.hand_in(run)?;
+    side_by_side.add_others(random)?;
+    if refusal != Refusal::NONE {
+        return Ok(Outcome::untouched(refusal, run.lengths().filled()));
+    }
+    // No run here has nearly as many windows.
+    for _ in 0..10_000 {
+        let turned = side_by_side.turn()?;
+        if turned.name == name && turned.stage != UNDER_WAY {
+            return Ok(turned.outcome);
+        }
+    }
+    Err("a run that is never over".to_string())
+}
+
+/// A dispatcher, and what its runs are lent, by their names.
+#[derive(Default)]
+struct SideBySide {
+    memory: dispatcher::Memory,
+    lent: BTreeMap<u64, Lending>,
+}
+
+impl SideBySide {
+    fn add_others(&mut self, random: &mut Random) -> Result<(), String> {
+        for _ in 0..random.below(4) {
+            let other = generate::stores::short_run(random);
+            self.hand_in(&generate::dispatchers::with_what_fits(&other, random))?;
+        }
+        Ok(())
+    }
+
+    fn hand_in(&mut self, run: &Run) -> Result<(Refusal, u64), String> {
+        let (refusal, name) = self.memory.handed_in(run)?;
+        if refusal == Refusal::NONE {
+            self.lent.insert(name, Lending::of(run, name as usize));
+        }
+        Ok((refusal, name))
+    }
+
+    fn turn(&mut self) -> Result<Turned, String> {
+        let name = self.memory.next();
+        let lending = self.lent.get_mut(&name);
+        let lending = lending.ok_or_else(|| format!("{name} is next, which is no run"))?;
+        let turned = self.memory.turned(lending)?;
+        lending.fresh = false;
+        Ok(turned)
+    }
 }
 
 /// What the pairs met. Both runs of a pair have a size.
@@ -160,7 +232,10 @@ impl Pair {
     }
 
     /// What `outcome` answers for each of the two.
-    fn each<T>(&self, outcome: impl Fn(&Run) -> Result<T, String>) -> Result<[T; 2], String> {
+    fn each<T>(
+        &self,
+        mut outcome: impl FnMut(&Run) -> Result<T, String>,
+    ) -> Result<[T; 2], String> {
         Ok([outcome(&self.longer)?, outcome(&self.shorter)?])
     }
 }

@@ -2,7 +2,8 @@
 
 use super::{Differences, PRINTED};
 use crate::cases::{
-    Build, Call, Called, Case, Draw, Log, Memory, Orth, Program, Rates, Root, Run, Step, Validate,
+    dispatcher, Build, Call, Called, Case, Draw, Listed, Log, Memory, Orth, Program, Rates, Root,
+    Run, Step, Validate,
 };
 use crate::line::Line;
 use crate::values::Answer;
@@ -28,7 +29,7 @@ enum Replayed {
 /// Replays every case of `text`; `program` is the path of the program `spectrum`.
 pub fn replay(text: &str, program: Option<&Path>) -> Result<bool, String> {
     let mut counts: BTreeMap<String, Count> = BTreeMap::new();
-    let mut store = None;
+    let mut kept = Kept::default();
     let mut differences = Differences::default();
     for (number, text) in text.lines().enumerate() {
         if text.is_empty() || text.starts_with('#') {
@@ -37,7 +38,7 @@ pub fn replay(text: &str, program: Option<&Path>) -> Result<bool, String> {
         let in_line = |error: String| format!("line {}: {error}", number + 1);
         let line = Line::read(text).map_err(in_line)?;
         let (kind, id) = (line.kind.to_string(), line.id.to_string());
-        let replayed = replay_line(line, program, &mut store).map_err(in_line)?;
+        let replayed = replay_line(line, program, &mut kept).map_err(in_line)?;
         let count = counts.entry(kind).or_default();
         match replayed {
             Replayed::Same => count.compared += 1,
@@ -71,12 +72,14 @@ fn print_counts(counts: &BTreeMap<String, Count>) -> bool {
     compared > 0 && differ == 0
 }
 
-/// `store` is that of the lines before; the first of its calls must empty it.
-fn replay_line(
-    line: Line,
-    program: Option<&Path>,
-    store: &mut Option<Memory>,
-) -> Result<Replayed, String> {
+/// What the lines before have left. The first call of each must empty it.
+#[derive(Default)]
+struct Kept {
+    store: Option<Memory>,
+    dispatcher: Option<dispatcher::Memory>,
+}
+
+fn replay_line(line: Line, program: Option<&Path>, kept: &mut Kept) -> Result<Replayed, String> {
     match line.kind {
         Root::KIND => replay_case::<Root>(line),
         Log::KIND => replay_case::<Log>(line),
@@ -88,20 +91,30 @@ fn replay_line(
         Build::KIND => replay_case::<Build>(line),
         Validate::KIND => replay_case::<Validate>(line),
         Program::KIND => replay_program(line, program),
-        kind if Call::KINDS.contains(&kind) => replay_call(line, store),
+        kind if Call::KINDS.contains(&kind) => replay_call::<Call>(line, &mut kept.store),
+        kind if dispatcher::Call::KINDS.contains(&kind) => {
+            replay_call::<dispatcher::Call>(line, &mut kept.dispatcher)
+        }
         kind => Err(format!("unknown kind {kind}")),
     }
 }
 
-fn replay_call(mut line: Line, store: &mut Option<Memory>) -> Result<Replayed, String> {
-    let call = Call::read(line.kind, &mut line.input)?;
+fn replay_call<C: Listed>(
+    mut line: Line,
+    memory: &mut Option<C::Memory>,
+) -> Result<Replayed, String> {
+    let call = C::read(line.kind, &mut line.input)?;
     line.input.finish()?;
     let expected = line.answer.answer(call.answer())?;
-    if matches!(call, Call::Empty) {
-        store.get_or_insert_default();
+    let empties = C::KINDS[0];
+    if line.kind == empties {
+        memory.get_or_insert_default();
     }
-    let store = store.as_mut().ok_or("no empty stands before it")?;
-    Ok(answered(&expected, store.answer(&call)))
+    let memory = memory
+        .as_mut()
+        .ok_or_else(|| format!("no {empties} stands before it"))?;
+    call.test(memory)?;
+    Ok(answered(&expected, call.library(memory)))
 }
 
 fn replay_case<C: Called>(line: Line) -> Result<Replayed, String> {

@@ -150,11 +150,7 @@ pub fn of_unfit_matrix(circuit: &Circuit, random: &mut Random) -> Circuit {
     let d = match (circuit.kind(), &circuit.system) {
         (Some(_), System::Linear { dimension, .. }) => *dimension,
         (Some(kind), System::Lorenz96 { cells, .. }) if !kind.dimensions.contains(cells) => {
-            let matrix = vec![f64::NAN; random.size_below(20)];
-            return Circuit::of_arguments(Arguments {
-                matrix: &matrix,
-                ..circuit.arguments()
-            });
+            return circuit.with_matrix(&vec![f64::NAN; random.size_below(20)]);
         }
         _ => 1 + random.size_below(16),
     };

@@ -9,7 +9,6 @@ use crate::circuit::Circuit;
 use crate::random::Random;
 use crate::values::Answer;
 use input::{Refusal, Settings, System};
-use lyapunov_sys::Arguments;
 
 /// Settings with one step a window, one window, no warm-up and the default seed.
 pub fn settings(top_k: usize, step_size: f64) -> Settings {
@@ -303,10 +302,7 @@ pub fn edges_of_forcing() -> Vec<(Run, &'static str)> {
 pub fn rings_with_a_matrix() -> Vec<(Run, &'static str)> {
     let lent = |length: usize| {
         let mut run = ring_run(4, 8.0, 4);
-        run.circuit = Circuit::of_arguments(Arguments {
-            matrix: &vec![f64::NAN; length],
-            ..run.circuit.arguments()
-        });
+        run.circuit = run.circuit.with_matrix(&vec![f64::NAN; length]);
         (run, "a ring with a matrix")
     };
     [1, 15, 16, 17].map(lent).to_vec()

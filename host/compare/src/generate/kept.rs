@@ -5,10 +5,8 @@ use super::circuits::{diagonal, linear};
 use super::edges::{linear_run, ring_run, rossler, usual_runs, with_windows};
 use super::runs::HALVING;
 use crate::cases::{Call, Run};
-use crate::circuit::Circuit;
 use crate::random::Random;
 use input::MAX_COUNT;
-use lyapunov_sys::Arguments;
 
 /// A call, and a remark on it.
 type Remarked = (Call, &'static str);
@@ -30,7 +28,7 @@ pub fn calls() -> Vec<Remarked> {
 }
 
 /// Two directions that shrink by themselves.
-fn decay() -> Run {
+pub fn decay() -> Run {
     linear_run(diagonal(&[-0.25, -0.5]), 2, 0.125)
 }
 
@@ -55,10 +53,7 @@ fn every_system() -> Vec<Remarked> {
     }
     for (number, run) in (3..).zip(&runs[..3]) {
         let mut other = run.clone();
-        other.circuit = Circuit::of_arguments(Arguments {
-            matrix: &[f64::NAN, 1.0],
-            ..run.circuit.arguments()
-        });
+        other.circuit = run.circuit.with_matrix(&[f64::NAN, 1.0]);
         calls.push((go_on(number, &other, 1), "another matrix that is not read"));
     }
     let widest = ring_run(16, 8.0, 16);

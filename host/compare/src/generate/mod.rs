@@ -3,6 +3,7 @@
 pub mod broken_runs;
 pub mod circuits;
 pub mod counts;
+pub mod dispatchers;
 pub mod edges;
 pub mod kept;
 pub mod orth;
@@ -13,6 +14,7 @@ pub mod seeds;
 pub mod settings;
 pub mod step;
 pub mod stores;
+pub mod turns;
 
 use crate::random::Random;
 

@@ -138,7 +138,7 @@ fn is_short(run: &Run) -> bool {
 }
 
 /// A run that is short; in a few a window has some hundred steps, which become faint.
-fn short_run(random: &mut Random) -> Run {
+pub fn short_run(random: &mut Random) -> Run {
     if random.one_in(16) {
         return growing_later(random);
     }
@@ -249,7 +249,7 @@ fn windows_over(earlier: u64, random: &mut Random) -> u64 {
 }
 
 /// The same run with one to three outputs that are one entry short.
-fn shortened(mut run: Run, random: &mut Random) -> Run {
+pub fn shortened(mut run: Run, random: &mut Random) -> Run {
     let outputs = random.within(1, 7);
     if outputs & 1 == 1 {
         run.rows = run.settings.rows_length().saturating_sub(1);
@@ -264,7 +264,7 @@ fn shortened(mut run: Run, random: &mut Random) -> Run {
 }
 
 /// Sometimes with room to spare in the outputs.
-fn roomy(mut run: Run, random: &mut Random) -> Run {
+pub fn roomy(mut run: Run, random: &mut Random) -> Run {
     if random.one_in(2) {
         run.rows += random.size_below(20);
         run.exponents += random.size_below(3);

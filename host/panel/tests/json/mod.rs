@@ -1,8 +1,9 @@
 //! A small reader of JSON, strict enough to notice what a program would stumble over.
 
-#[derive(Debug)]
+#[derive(Debug, PartialEq)]
 pub enum Value {
     Null,
+    True,
     Number(f64),
     Text(String),
     List(Vec<Value>),
@@ -10,11 +11,15 @@ pub enum Value {
 }
 
 impl Value {
+    pub fn fields(&self) -> &[(String, Value)] {
+        match self {
+            Value::Object(fields) => fields,
+            other => panic!("no object: {other:?}"),
+        }
+    }
+
     pub fn field(&self, name: &str) -> &Value {
-        let Value::Object(fields) = self else {
-            panic!("no object: {self:?}");
-        };
-        let found = fields.iter().find(|(field, _)| field == name);
+        let found = self.fields().iter().find(|(field, _)| field == name);
         &found.unwrap_or_else(|| panic!("no field {name}")).1
     }
 
@@ -72,6 +77,8 @@ impl Reader<'_> {
     fn value(&mut self) -> Result<Value, String> {
         if self.take("null") {
             Ok(Value::Null)
+        } else if self.take("true") {
+            Ok(Value::True)
         } else if self.rest.starts_with('"') {
             self.text().map(Value::Text)
         } else if self.take("[") {

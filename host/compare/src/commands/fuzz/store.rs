@@ -96,7 +96,7 @@ fn in_any_memory(memory: &mut Memory, call: &Call) -> Result<u64, String> {
 }
 
 /// A stream of numbers from a seed.
-fn stream(seed: u64) -> impl FnMut() -> u64 {
+pub fn stream(seed: u64) -> impl FnMut() -> u64 {
     let mut state = seed;
     move || {
         let (next, output) = model::splitmix64(state);
