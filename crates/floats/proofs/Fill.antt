@@ -16,17 +16,8 @@ module _ {A : Type 0} where
       (sym (append_snoc (take i L) (get_or L i d) (drop (suc i) o)))
 
   -- an iteration of the loop, where X is under way
-  pub fill_at : (L o X : List A) (i j : ℕ) (v : A) → X ≡ take i L ++ drop i o → v ≡ get_or L i v → j ≡ i + 1 → j ≤ length L → j ≤ length o → set X i v ≡ take j L ++ drop j o
-  fill_at L o X i j v e f k h g =
-      ap (set X i) f
-      ∙ ap (λ (Y : List A). set Y i (get_or L i v)) e
-      ∙ fill_next L o i v (omega (arith, k, h)) (omega (arith, k, g))
-      ∙ ap (λ (m : ℕ). take m L ++ drop m o) (sym k)
-
--- the same of floats
-pub fill_step : (L o X : List Float) (i : ℕ) (v : Float) → X ≡ take i L ++ drop i o → v ≡ get_or L i nan → i < length L → i < length o
-    → set X i v ≡ take (i + 1) L ++ drop (i + 1) o
-fill_step L o X i v e f h g = rw (e, f) (fill_next L o i nan h g)
+  pub fill_step : (L o X : List A) (i : ℕ) (v d : A) → X ≡ take i L ++ drop i o → v ≡ get_or L i d → i < length L → i < length o → set X i v ≡ take (i + 1) L ++ drop (i + 1) o
+  fill_step L o X i v d e f h g = rw (e, f) (fill_next L o i d h g)
 
 -- ---- n entries of L are written over o, behind which o has none
 
