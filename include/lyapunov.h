@@ -69,7 +69,7 @@
  * in any number of threads at once, on different memory. Nothing is allocated, no file, clock or
  * environment is read, no signal is raised, and errno is left alone. Floating point must be in the
  * mode that C starts in: rounding to nearest, subnormals kept. Stack use is bounded, since nothing
- * is recursive: a keep was measured at 12,680 bytes on x86-64, its arguments among them, and no
+ * is recursive: a keep was measured at 12,136 bytes on x86-64, its arguments among them, and no
  * function uses more. The archive needs memcpy and memset of the C library, and no libm.
  *
  * REFUSALS
@@ -79,8 +79,9 @@
  *    2  step_size is not finite, or not above 0
  *    3  steps_per_window is 0
  *    4  windows is 0
+ *   29  the steps of a warm-up window are 0; it is tested straight after 4
  *    5  a count is above LYAPUNOV_MAX_COUNT; place: the first that is, in the order
- *       0 steps_per_window, 1 windows, 2 transient_windows
+ *       0 steps_per_window, 1 windows, 2 transient_windows, 3 the steps of a warm-up window
  *    6  the (start) time is not finite
  *   12  top_k is above the dimension
  *   15  the duration of a window, step_size * steps_per_window, is not finite
@@ -126,7 +127,7 @@ extern "C" {
 
 /* The largest dimension, and the largest count of directions of a step. */
 #define LYAPUNOV_MAX_DIMENSION 16
-/* The largest steps_per_window, windows and transient_windows, each. */
+/* The largest steps_per_window, windows, transient_windows and steps of a warm-up window, each. */
 #define LYAPUNOV_MAX_COUNT 16777216
 /* The most exponents of a dimension or an entropy. */
 #define LYAPUNOV_MAX_EXPONENTS 256
@@ -140,7 +141,7 @@ extern "C" {
 #define LYAPUNOV_DISPATCHER_FLOATS 2568
 #define LYAPUNOV_DISPATCHER_COUNTS 152
 #define LYAPUNOV_DISPATCHER_SETTINGS 32
-#define LYAPUNOV_DISPATCHER_QUEUE 65
+#define LYAPUNOV_DISPATCHER_QUEUE 73
 #define LYAPUNOV_NOBODY UINT64_C(8)
 /* The seed to take where there is no reason for another. */
 #define LYAPUNOV_DEFAULT_SEED UINT64_C(0x4c594150554e4f56)
@@ -199,7 +200,8 @@ enum lyapunov_times {
  *   state                the start state, of the system's dimension
  *   top_k                how many exponents, 1 up to the dimension
  *   step_size            of a Runge-Kutta step of fourth order
- *   steps_per_window     steps between two orthonormalisations of the directions
+ *   steps_per_window     steps between two orthonormalisations of the directions; a warm-up window
+ *                        has as many, unless an option says otherwise, see OPTIONS
  *   windows              measured windows
  *   transient_windows    warm-up windows before them, which no row or exponent reports; may be 0
  *   seed                 of the directions at the start; any value
@@ -216,15 +218,16 @@ enum lyapunov_times {
  * end its squared length was below 2^-960; it is 0 for directions from top_k on. Where it is 0, the
  * lengths were long enough for their squares to be exact enough. Where it is not, the direction's
  * rate, and those of the directions after it, may be wrong although they look like rates: run again
- * with shorter windows, which means fewer steps a window or a smaller step_size. A count speaks
+ * with shorter windows, which means fewer steps a window or a smaller step_size. Where warm-up
+ * windows have more steps than measured ones, they may be those that are too long. A count speaks
  * of squares alone: directions whose lengths come to differ by more than the 53 bits of a double
  * within one window can lose their rates although it is 0.
  *
- * ORDER OF TESTS. 1, 2, 3, 4, 5, 6, 7, 8, 25, 9, 10, 11, 12, 13; then the directions are drawn (14)
- * and 15 is tested; then each step tests 16, 17, 18, and each window's end 14.
+ * ORDER OF TESTS. 1, 2, 3, 4, 29, 5, 6, 7, 8, 25, 9, 10, 11, 12, 13; then the directions are drawn
+ * (14) and 15 is tested; then each step tests 16, 17, 18, and each window's end 14.
  *
  * REFUSED. All of counts and times are written by every call. A refused run has faint counts of 0
- * and times of +0.0. Refused by 1 to 13, by 25, by 15, or by 14 at the draw, it has written nothing
+ * and times of +0.0. Refused by 1 to 13, 25, 29, 15, or by 14 at the draw, it has written nothing
  * else, and finished and steps are 0. Refused later, it has written the rows of its finished
  * measured windows: counts[LYAPUNOV_FINISHED] rows, and no exponents and no final state.
  *
@@ -296,7 +299,8 @@ uint64_t lyapunov_estimate_largest(
  *
  * WHAT MUST BE BROUGHT to a going on is what was brought to the keeping, apart from `windows` and
  * the outputs: the same system, a linear one with the same matrix, and the same time, state, top_k,
- * step_size, steps_per_window, transient_windows and seed. Whether it is the same is not tested.
+ * step_size, steps_per_window, transient_windows, seed and options. Whether it is the same is not
+ * tested.
  * Where it is not, any answer may come, with any floats in the outputs; the call still ends, and
  * touches nothing else.
  *
@@ -434,8 +438,8 @@ uint64_t lyapunov_turn(
     uint64_t *event, uint64_t *counts, double *times);
 
 /*
- * Tests the settings of a run without running: 1 to 5, with no warm-up windows. A run tests them
- * again. Only *place is written.
+ * Tests the settings of a run without running: 1 to 5, with no warm-up windows and no options, so
+ * that 29 is never answered. A run tests them again. Only *place is written.
  */
 uint64_t lyapunov_build_config(
     size_t top_k, double step_size, uint64_t steps_per_window, uint64_t windows,
@@ -443,7 +447,8 @@ uint64_t lyapunov_build_config(
 
 /*
  * Tests what a run is handed, apart from its outputs, without running: 1 to 12, in this order, with
- * 25 after 8. The arguments are those of a run, which tests them again. Only *place is written.
+ * 29 after 4 and 25 after 8. The arguments are those of a run, which tests them again. Only *place
+ * is written.
  */
 uint64_t lyapunov_validate(
     uint64_t kind, double p0, double p1, double p2,
@@ -451,6 +456,86 @@ uint64_t lyapunov_validate(
     double time, const double *state, size_t state_len,
     size_t top_k, double step_size, uint64_t steps_per_window, uint64_t windows,
     uint64_t transient_windows, uint64_t *place);
+
+/*
+ * OPTIONS: settings of a run that came after the arguments above. They are a slice of numbers, in
+ * which each has its place, behind the seed, or behind transient_windows where there is no seed:
+ *
+ *   options[LYAPUNOV_STEPS_PER_TRANSIENT_WINDOW]
+ *       the steps of each warm-up window. Left out it is steps_per_window; given as that number it
+ *       is the same setting. It is tested by 29 and 5 also where there are no warm-up windows
+ *
+ * An option that is left out, since options_len is not above its place, has the value that it had
+ * before there was such an option: with options_len 0 the five functions below are those of the
+ * same name without _with_options, and the functions that take no options are these with none.
+ * What stands behind the last place is not read.
+ *
+ * WHEN TO SET THEM. A circuit that settles slowly, as a power supply does, is settled in few long
+ * windows and then measured in many short ones: so many steps, times step_size, times
+ * transient_windows are the time that it is left to settle. Exponents, rows and the measured time
+ * are of the measured windows and their steps alone. Faint counts and counts[LYAPUNOV_STEPS] cover
+ * both sorts of windows.
+ */
+enum lyapunov_options {
+    LYAPUNOV_STEPS_PER_TRANSIENT_WINDOW = 0,
+    LYAPUNOV_OPTIONS = 1 /* how many options there are */
+};
+
+uint64_t lyapunov_estimate_spectrum_at_with_options(
+    uint64_t kind, double p0, double p1, double p2,
+    size_t dimension, const double *matrix, size_t matrix_len,
+    double time, const double *state, size_t state_len,
+    size_t top_k, double step_size, uint64_t steps_per_window, uint64_t windows,
+    uint64_t transient_windows, uint64_t seed,
+    const uint64_t *options, size_t options_len,
+    double *rows, size_t rows_len,
+    double *exponents, size_t exponents_len,
+    double *final_state, size_t final_state_len,
+    uint64_t *counts, double *times);
+
+uint64_t lyapunov_keep_with_options(
+    double *store_floats, uint64_t *store_counts, uint8_t number,
+    uint64_t kind, double p0, double p1, double p2,
+    size_t dimension, const double *matrix, size_t matrix_len,
+    double time, const double *state, size_t state_len,
+    size_t top_k, double step_size, uint64_t steps_per_window, uint64_t windows,
+    uint64_t transient_windows, uint64_t seed,
+    const uint64_t *options, size_t options_len,
+    double *rows, size_t rows_len,
+    double *exponents, size_t exponents_len,
+    double *final_state, size_t final_state_len,
+    uint64_t *counts, double *times);
+
+uint64_t lyapunov_go_on_with_options(
+    const double *store_floats, const uint64_t *store_counts, uint8_t number,
+    uint64_t kind, double p0, double p1, double p2,
+    size_t dimension, const double *matrix, size_t matrix_len,
+    double time, const double *state, size_t state_len,
+    size_t top_k, double step_size, uint64_t steps_per_window, uint64_t windows,
+    uint64_t transient_windows, uint64_t seed,
+    const uint64_t *options, size_t options_len,
+    double *rows, size_t rows_len,
+    double *exponents, size_t exponents_len,
+    double *final_state, size_t final_state_len,
+    uint64_t *counts, double *times);
+
+uint64_t lyapunov_hand_in_with_options(
+    double *run_floats, uint64_t *run_counts, double *run_settings, uint64_t *queue,
+    uint64_t kind, double p0, double p1, double p2,
+    size_t dimension,
+    double time, const double *state, size_t state_len,
+    size_t top_k, double step_size, uint64_t steps_per_window, uint64_t windows,
+    uint64_t transient_windows, uint64_t seed,
+    const uint64_t *options, size_t options_len,
+    uint64_t *name, uint64_t *place);
+
+uint64_t lyapunov_validate_with_options(
+    uint64_t kind, double p0, double p1, double p2,
+    size_t dimension, const double *matrix, size_t matrix_len,
+    double time, const double *state, size_t state_len,
+    size_t top_k, double step_size, uint64_t steps_per_window, uint64_t windows,
+    uint64_t transient_windows,
+    const uint64_t *options, size_t options_len, uint64_t *place);
 
 /*
  * One Runge-Kutta step of fourth order: moves the state, and `count` directions along with it.
@@ -640,6 +725,8 @@ struct lyapunov_settings {
     struct lyapunov_required_settings required;
     uint64_t transient_windows; /* default 0 */
     uint64_t seed;              /* default LYAPUNOV_DEFAULT_SEED */
+    uint64_t options[LYAPUNOV_OPTIONS]; /* see OPTIONS above */
+    size_t options_given;               /* how many of them are given: default 0 */
 };
 
 /* Settings, and what lyapunov_build_config says of them: refused by 1 to 5, or not. */
@@ -658,15 +745,25 @@ static inline struct lyapunov_built lyapunov_build_settings(
     built.settings.required = *required;
     built.settings.transient_windows = 0;
     built.settings.seed = LYAPUNOV_DEFAULT_SEED;
+    built.settings.options[LYAPUNOV_STEPS_PER_TRANSIENT_WINDOW] = required->steps_per_window;
+    built.settings.options_given = 0;
     return built;
 }
 
-/* The same settings with so many warm-up windows, with another seed, or with so many measured
- * windows, as a going on takes them. The run tests them. */
+/* The same settings with so many warm-up windows, with so many steps in each of these, with another
+ * seed, or with so many measured windows, as a going on takes them. The run tests them. */
 static inline struct lyapunov_settings lyapunov_with_transient_windows(
     struct lyapunov_settings settings, uint64_t transient_windows)
 {
     settings.transient_windows = transient_windows;
+    return settings;
+}
+
+static inline struct lyapunov_settings lyapunov_with_steps_per_transient_window(
+    struct lyapunov_settings settings, uint64_t steps)
+{
+    settings.options[LYAPUNOV_STEPS_PER_TRANSIENT_WINDOW] = steps;
+    settings.options_given = LYAPUNOV_STEPS_PER_TRANSIENT_WINDOW + 1;
     return settings;
 }
 
@@ -727,7 +824,7 @@ struct lyapunov_store {
     uint64_t counts[LYAPUNOV_STORE_COUNTS];
 };
 
-/* Where runs are under way side by side, see SEVERAL CIRCUITS above; it has 22,536 bytes. Empty it
+/* Where runs are under way side by side, see SEVERAL CIRCUITS above; it has 22,600 bytes. Empty it
  * by lyapunov_dispatcher_empty first. It may be copied as any struct.
  *
  *     lyapunov_dispatcher_empty(&dispatcher);
@@ -836,7 +933,8 @@ static inline struct lyapunov_estimate lyapunov_end_run(
     return estimate;
 }
 
-/* Tests what a run is handed, apart from its outputs, without running: lyapunov_validate. */
+/* Tests what a run is handed, apart from its outputs, without running:
+ * lyapunov_validate_with_options. */
 static inline struct lyapunov_refusal lyapunov_validate_run(
     const struct lyapunov_system *system, double time, struct lyapunov_const_slice state,
     const struct lyapunov_settings *settings)
@@ -846,12 +944,13 @@ static inline struct lyapunov_refusal lyapunov_validate_run(
     struct lyapunov_const_slice start = lyapunov_handed_const(state, &nothing);
     struct lyapunov_refusal refusal;
 
-    refusal.number = lyapunov_validate(
+    refusal.number = lyapunov_validate_with_options(
         system->kind, system->p0, system->p1, system->p2, system->dimension,
         matrix.at, matrix.length, time, start.at, start.length,
         settings->required.top_k, settings->required.step_size,
         settings->required.steps_per_window, settings->required.windows,
-        settings->transient_windows, &refusal.place);
+        settings->transient_windows, settings->options, settings->options_given,
+        &refusal.place);
     return refusal;
 }
 
@@ -867,32 +966,30 @@ static inline struct lyapunov_refusal lyapunov_validate_run(
     (run).state.at, (run).state.length, \
         (settings)->required.top_k, (settings)->required.step_size, \
         (settings)->required.steps_per_window, (settings)->required.windows, \
-        (settings)->transient_windows, (settings)->seed
+        (settings)->transient_windows, (settings)->seed, \
+        (settings)->options, (settings)->options_given
 #define LYAPUNOV_OUTPUT_ARGUMENTS(run) LYAPUNOV_SLICE_ARGUMENTS(run), (run).counts, (run).times
 #define LYAPUNOV_SLICE_ARGUMENTS(run) \
     (run).rows.at, (run).rows.length, (run).exponents.at, (run).exponents.length, \
         (run).final_state.at, (run).final_state.length
 
-/* A run from a start time: lyapunov_estimate_spectrum_at. */
+/* A run from a start time: lyapunov_estimate_spectrum_at_with_options. */
 static inline struct lyapunov_estimate lyapunov_spectrum_at(
     const struct lyapunov_system *system, double time, struct lyapunov_const_slice state,
     const struct lyapunov_settings *settings, const struct lyapunov_outputs *outputs)
 {
     struct lyapunov_run run;
     lyapunov_begin_run(&run, system, state, outputs);
-    return lyapunov_end_run(&run, lyapunov_estimate_spectrum_at(
+    return lyapunov_end_run(&run, lyapunov_estimate_spectrum_at_with_options(
         LYAPUNOV_SYSTEM_ARGUMENTS(system, run), time, LYAPUNOV_RUN_ARGUMENTS(settings, run)));
 }
 
-/* A run from time 0: lyapunov_estimate_spectrum. */
+/* The same run from time 0. */
 static inline struct lyapunov_estimate lyapunov_spectrum(
     const struct lyapunov_system *system, struct lyapunov_const_slice state,
     const struct lyapunov_settings *settings, const struct lyapunov_outputs *outputs)
 {
-    struct lyapunov_run run;
-    lyapunov_begin_run(&run, system, state, outputs);
-    return lyapunov_end_run(&run, lyapunov_estimate_spectrum(
-        LYAPUNOV_SYSTEM_ARGUMENTS(system, run), LYAPUNOV_RUN_ARGUMENTS(settings, run)));
+    return lyapunov_spectrum_at(system, 0.0, state, settings, outputs);
 }
 
 /* A run from time 0 for the largest exponent, with the defaults: lyapunov_estimate_largest. The
@@ -915,7 +1012,7 @@ static inline void lyapunov_store_empty(struct lyapunov_store *store)
     lyapunov_empty_store(store->counts);
 }
 
-/* A run from a start time, kept under a number: lyapunov_keep. */
+/* A run from a start time, kept under a number: lyapunov_keep_with_options. */
 static inline struct lyapunov_estimate lyapunov_store_keep(
     struct lyapunov_store *store, uint8_t number,
     const struct lyapunov_system *system, double time, struct lyapunov_const_slice state,
@@ -923,13 +1020,13 @@ static inline struct lyapunov_estimate lyapunov_store_keep(
 {
     struct lyapunov_run run;
     lyapunov_begin_run(&run, system, state, outputs);
-    return lyapunov_end_run(&run, lyapunov_keep(
+    return lyapunov_end_run(&run, lyapunov_keep_with_options(
         store->floats, store->counts, number,
         LYAPUNOV_SYSTEM_ARGUMENTS(system, run), time, LYAPUNOV_RUN_ARGUMENTS(settings, run)));
 }
 
-/* Goes on from what is kept under a number: lyapunov_go_on. Bring what was brought to the keeping,
- * apart from the windows, which lyapunov_with_windows sets, and the outputs. */
+/* Goes on from what is kept under a number: lyapunov_go_on_with_options. Bring what was brought to
+ * the keeping, apart from the windows, which lyapunov_with_windows sets, and the outputs. */
 static inline struct lyapunov_estimate lyapunov_store_go_on(
     const struct lyapunov_store *store, uint8_t number,
     const struct lyapunov_system *system, double time, struct lyapunov_const_slice state,
@@ -937,7 +1034,7 @@ static inline struct lyapunov_estimate lyapunov_store_go_on(
 {
     struct lyapunov_run run;
     lyapunov_begin_run(&run, system, state, outputs);
-    return lyapunov_end_run(&run, lyapunov_go_on(
+    return lyapunov_end_run(&run, lyapunov_go_on_with_options(
         store->floats, store->counts, number,
         LYAPUNOV_SYSTEM_ARGUMENTS(system, run), time, LYAPUNOV_RUN_ARGUMENTS(settings, run)));
 }
@@ -964,7 +1061,8 @@ static inline uint64_t lyapunov_dispatcher_next(const struct lyapunov_dispatcher
     return lyapunov_next(dispatcher->queue);
 }
 
-/* Hands a run in from a start time: lyapunov_hand_in. The matrix of the system is not read. */
+/* Hands a run in from a start time: lyapunov_hand_in_with_options. The matrix of the system is not
+ * read. */
 static inline struct lyapunov_admission lyapunov_dispatcher_hand_in(
     struct lyapunov_dispatcher *dispatcher,
     const struct lyapunov_system *system, double time, struct lyapunov_const_slice state,
@@ -974,7 +1072,7 @@ static inline struct lyapunov_admission lyapunov_dispatcher_hand_in(
     struct lyapunov_run run;
     struct lyapunov_admission admission;
     lyapunov_begin_run(&run, system, state, &none);
-    admission.refusal.number = lyapunov_hand_in(
+    admission.refusal.number = lyapunov_hand_in_with_options(
         dispatcher->floats, dispatcher->counts, dispatcher->settings, dispatcher->queue,
         LYAPUNOV_KIND_ARGUMENTS(system), time, LYAPUNOV_START_ARGUMENTS(settings, run),
         &admission.name, &admission.refusal.place);
@@ -1039,7 +1137,7 @@ static inline const char *lyapunov_refusal_text(uint64_t number)
         "The step size is not finite or not above 0.",
         "A window has no steps.",
         "There are no measured windows.",
-        "The steps per window, the windows or the warm-up windows are more than 16777216.",
+        "A count of windows, or of steps in a window, is more than 16777216.",
         "The time is not finite.",
         "The system has dimension 0 or is of no known kind.",
         "The dimension is above 16.",
@@ -1063,6 +1161,7 @@ static inline const char *lyapunov_refusal_text(uint64_t number)
         "No state is kept under the number.",
         "Eight other numbers are kept.",
         "Eight runs are unfinished.",
+        "A warm-up window has no steps.",
     };
     const uint64_t known = sizeof texts / sizeof *texts;
     return number < known ? texts[number] : "No refusal has this number.";

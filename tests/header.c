@@ -28,7 +28,7 @@ struct left {
     uint64_t counts[LYAPUNOV_COUNTS], number;
 };
 
-/* A system as a struct, and its flat arguments. */
+/* A system as a struct, and its flat arguments. Warm-up steps of 0 stand for an option left out. */
 struct trial {
     const char *name;
     struct lyapunov_system system;
@@ -38,7 +38,7 @@ struct trial {
     size_t matrix_len;
     double state[MOST];
     size_t dimension;
-    uint64_t steps, transient_windows, seed;
+    uint64_t steps, transient_windows, seed, warm_up_steps;
 };
 
 static struct lyapunov_required_settings required(size_t top_k, double step_size, uint64_t steps)
@@ -57,6 +57,9 @@ static struct lyapunov_settings settings_of(const struct trial *trial)
     struct lyapunov_built built = lyapunov_build_settings(&needed);
     built.settings =
         lyapunov_with_transient_windows(built.settings, trial->transient_windows);
+    if (trial->warm_up_steps > 0)
+        built.settings = lyapunov_with_steps_per_transient_window(
+            built.settings, trial->warm_up_steps);
     return lyapunov_with_seed(built.settings, trial->seed);
 }
 
@@ -87,6 +90,7 @@ static void note(struct left *left, struct lyapunov_estimate estimate)
 #define MATRIX_OF(t) (t)->matrix, (t)->matrix_len
 #define SETTINGS_OF(t, windows) \
     (t)->dimension, 0.0625, (t)->steps, (windows), (t)->transient_windows, (t)->seed
+#define OPTIONS_OF(t) &(t)->warm_up_steps, (size_t)((t)->warm_up_steps > 0)
 #define OUTPUTS_OF(l, k, d) SLICES_OF(l, k, d), (l)->counts, (l)->times
 #define SLICES_OF(l, k, d) \
     (l)->rows, LYAPUNOV_ROWS_LENGTH(k, WINDOWS), (l)->exponents, (k), (l)->final_state, (d)
@@ -96,28 +100,57 @@ static void same(const struct left *a, const struct left *b, const char *what, c
     check(memcmp(a, b, sizeof *a) == 0, what, which);
 }
 
+/* A run is the same without options where none is given, and with surplus ones, which are not
+ * read. */
+static void options(const struct trial *t, const struct left *by_struct)
+{
+    const size_t d = t->dimension;
+    const uint64_t surplus[3] = {t->warm_up_steps > 0 ? t->warm_up_steps : t->steps, 0, 99};
+    struct left flat;
+
+    lent(&flat, d, d);
+    flat.number = lyapunov_estimate_spectrum_at_with_options(
+        SYSTEM_OF(t), 2.5, t->state, d, SETTINGS_OF(t, WINDOWS), surplus, 3,
+        OUTPUTS_OF(&flat, d, d));
+    same(by_struct, &flat, "surplus options", t->name);
+    if (t->warm_up_steps > 0) return;
+    lent(&flat, d, d);
+    flat.number = lyapunov_estimate_spectrum_at(
+        SYSTEM_OF(t), 2.5, t->state, d, SETTINGS_OF(t, WINDOWS), OUTPUTS_OF(&flat, d, d));
+    same(by_struct, &flat, "without options", t->name);
+}
+
 /* The three runs by structs and by flat arguments. */
 static void runs(const struct trial *t)
 {
     struct left by_struct, flat;
     const size_t d = t->dimension;
+    const uint64_t warm_up_steps = t->warm_up_steps > 0 ? t->warm_up_steps : t->steps;
     const struct lyapunov_settings settings = settings_of(t);
     const struct lyapunov_const_slice start = lyapunov_lent_const(t->state, d);
     struct lyapunov_outputs outputs = lent(&by_struct, d, d);
 
     note(&by_struct, lyapunov_spectrum_at(&t->system, 2.5, start, &settings, &outputs));
     lent(&flat, d, d);
-    flat.number = lyapunov_estimate_spectrum_at(
-        SYSTEM_OF(t), 2.5, t->state, d, SETTINGS_OF(t, WINDOWS), OUTPUTS_OF(&flat, d, d));
+    flat.number = lyapunov_estimate_spectrum_at_with_options(
+        SYSTEM_OF(t), 2.5, t->state, d, SETTINGS_OF(t, WINDOWS), OPTIONS_OF(t),
+        OUTPUTS_OF(&flat, d, d));
     check(flat.number == 0, "a run that is not refused", t->name);
     check((flat.counts[LYAPUNOV_FAINT] > 0) == (t->steps == 270), "faint windows", t->name);
+    check(flat.counts[LYAPUNOV_STEPS]
+              == WINDOWS * t->steps + t->transient_windows * warm_up_steps, "steps", t->name);
     same(&by_struct, &flat, "lyapunov_spectrum_at", t->name);
+    options(t, &by_struct);
 
     outputs = lent(&by_struct, d, d);
     note(&by_struct, lyapunov_spectrum(&t->system, start, &settings, &outputs));
     lent(&flat, d, d);
-    flat.number = lyapunov_estimate_spectrum(
-        SYSTEM_OF(t), t->state, d, SETTINGS_OF(t, WINDOWS), OUTPUTS_OF(&flat, d, d));
+    flat.number = t->warm_up_steps > 0
+        ? lyapunov_estimate_spectrum_at_with_options(
+            SYSTEM_OF(t), 0.0, t->state, d, SETTINGS_OF(t, WINDOWS), OPTIONS_OF(t),
+            OUTPUTS_OF(&flat, d, d))
+        : lyapunov_estimate_spectrum(
+            SYSTEM_OF(t), t->state, d, SETTINGS_OF(t, WINDOWS), OUTPUTS_OF(&flat, d, d));
     same(&by_struct, &flat, "lyapunov_spectrum", t->name);
 
     outputs = lent(&by_struct, 1, d);
@@ -174,19 +207,25 @@ static void steps(const struct trial *t)
     check(refusal.number == 10 && refusal.place == 0, "no state to step", t->name);
 }
 
-/* Both forms of the tests 1 to 12 and 25 answer so. */
+/* All forms of the tests 1 to 12, 25 and 29 answer so. */
 static void validated(const struct trial *t, double time, const double *state, size_t state_len,
                       const struct lyapunov_settings *s, uint64_t number, uint64_t place)
 {
     const struct lyapunov_refusal refusal = lyapunov_validate_run(
         &t->system, time, lyapunov_lent_const(state, state_len), s);
     uint64_t at = 77;
-    const uint64_t flat = lyapunov_validate(
+    uint64_t flat = lyapunov_validate_with_options(
         SYSTEM_OF(t), time, state, state_len, s->required.top_k, s->required.step_size,
-        s->required.steps_per_window, s->required.windows, s->transient_windows, &at);
+        s->required.steps_per_window, s->required.windows, s->transient_windows, s->options,
+        s->options_given, &at);
 
     check(refusal.number == number && refusal.place == place, "tests by structs", t->name);
     check(flat == number && at == place, "tests by flat arguments", t->name);
+    if (s->options_given > 0) return;
+    flat = lyapunov_validate(
+        SYSTEM_OF(t), time, state, state_len, s->required.top_k, s->required.step_size,
+        s->required.steps_per_window, s->required.windows, s->transient_windows, &at);
+    check(flat == number && at == place, "tests without options", t->name);
 }
 
 static void validation(const struct trial *t)
@@ -204,12 +243,21 @@ static void validation(const struct trial *t)
     validated(t, 2.5, state, d, &settings, 11, d - 1);
     settings.required.top_k = d + 1;
     validated(t, 2.5, t->state, d, &settings, 12, 0);
+    settings =
+        lyapunov_with_steps_per_transient_window(settings, LYAPUNOV_MAX_COUNT + UINT64_C(1));
+    validated(t, 2.5, t->state, d, &settings, 5, 3);
     settings.transient_windows = LYAPUNOV_MAX_COUNT + UINT64_C(1);
+    validated(t, 2.5, t->state, d, &settings, 5, 2);
+    settings = lyapunov_with_steps_per_transient_window(settings, 0);
+    validated(t, 2.5, t->state, d, &settings, 29, 0);
+    settings = lyapunov_with_steps_per_transient_window(settings, t->steps);
     validated(t, 2.5, t->state, d, &settings, 5, 2);
     settings.required.windows = LYAPUNOV_MAX_COUNT + UINT64_C(1);
     validated(t, 2.5, t->state, d, &settings, 5, 1);
     settings.required.steps_per_window = LYAPUNOV_MAX_COUNT + UINT64_C(1);
     validated(t, 2.5, t->state, d, &settings, 5, 0);
+    settings = lyapunov_with_steps_per_transient_window(settings, 0);
+    validated(t, 2.5, t->state, d, &settings, 29, 0);
     settings.required.windows = 0;
     validated(t, 2.5, t->state, d, &settings, 4, 0);
     settings.required.steps_per_window = 0;
@@ -286,15 +334,22 @@ static void kept(const struct trial *t, struct guarded *by_struct, struct guarde
     emptied(flat);
     note(&left[0], lyapunov_store_keep(&by_struct->store, 200, &t->system, 2.5,
                                        lyapunov_lent_const(t->state, d), &settings, &outputs));
-    left[1].number = lyapunov_keep(
+    left[1].number = lyapunov_keep_with_options(
         flat->store.floats, flat->store.counts, 200, SYSTEM_OF(t), 2.5, t->state, d,
-        SETTINGS_OF(t, 1), OUTPUTS_OF(&left[1], d, d));
+        SETTINGS_OF(t, 1), OPTIONS_OF(t), OUTPUTS_OF(&left[1], d, d));
     check(left[1].number == 0, "a keep that is not refused", t->name);
     same(&left[0], &left[1], "lyapunov_store_keep", t->name);
-    left[1].number = lyapunov_estimate_spectrum_at(
-        SYSTEM_OF(t), 2.5, t->state, d, SETTINGS_OF(t, 1), OUTPUTS_OF(&left[1], d, d));
+    left[1].number = lyapunov_estimate_spectrum_at_with_options(
+        SYSTEM_OF(t), 2.5, t->state, d, SETTINGS_OF(t, 1), OPTIONS_OF(t),
+        OUTPUTS_OF(&left[1], d, d));
     same(&left[0], &left[1], "a keep is the run", t->name);
     check(memcmp(by_struct, flat, sizeof *flat) == 0, "what is kept", t->name);
+    if (t->warm_up_steps == 0) {
+        lyapunov_keep(
+            flat->store.floats, flat->store.counts, 200, SYSTEM_OF(t), 2.5, t->state, d,
+            SETTINGS_OF(t, 1), OUTPUTS_OF(&left[1], d, d));
+        check(memcmp(by_struct, flat, sizeof *flat) == 0, "kept without options", t->name);
+    }
     guards(by_struct, t->name);
 }
 
@@ -312,14 +367,22 @@ static void gone_on(const struct trial *t)
     note(&left[0], lyapunov_store_go_on(&by_struct.store, 200, &t->system, 2.5,
                                         lyapunov_lent_const(t->state, d), &settings, &outputs));
     lent(&left[1], d, d);
-    left[1].number = lyapunov_go_on(
+    left[1].number = lyapunov_go_on_with_options(
         flat.store.floats, flat.store.counts, 200, SYSTEM_OF(t), 2.5, t->state, d,
-        SETTINGS_OF(t, WINDOWS - 1), OUTPUTS_OF(&left[1], d, d));
+        SETTINGS_OF(t, WINDOWS - 1), OPTIONS_OF(t), OUTPUTS_OF(&left[1], d, d));
     check(left[1].number == 0, "a going on that is not refused", t->name);
     same(&left[0], &left[1], "lyapunov_store_go_on", t->name);
+    if (t->warm_up_steps == 0) {
+        lent(&left[1], d, d);
+        left[1].number = lyapunov_go_on(
+            flat.store.floats, flat.store.counts, 200, SYSTEM_OF(t), 2.5, t->state, d,
+            SETTINGS_OF(t, WINDOWS - 1), OUTPUTS_OF(&left[1], d, d));
+        same(&left[0], &left[1], "gone on without options", t->name);
+    }
     lent(&left[2], d, d);
-    left[2].number = lyapunov_estimate_spectrum_at(
-        SYSTEM_OF(t), 2.5, t->state, d, SETTINGS_OF(t, WINDOWS), OUTPUTS_OF(&left[2], d, d));
+    left[2].number = lyapunov_estimate_spectrum_at_with_options(
+        SYSTEM_OF(t), 2.5, t->state, d, SETTINGS_OF(t, WINDOWS), OPTIONS_OF(t),
+        OUTPUTS_OF(&left[2], d, d));
     memmove(left[2].rows, left[2].rows + width, (WINDOWS - 1) * width * sizeof(double));
     memset(left[2].rows + (WINDOWS - 1) * width, 0x5a, width * sizeof(double));
     same(&left[0], &left[2], "a going on is the end of the one run", t->name);
@@ -350,9 +413,13 @@ static void handed_in(const struct trial *t, uint64_t name, struct guarded *by_s
         &by_struct->dispatcher, &t->system, 2.5, lyapunov_lent_const(t->state, t->dimension),
         &settings);
     uint64_t named = 77, place = 77;
-    const uint64_t number = lyapunov_hand_in(
-        DISPATCHER_OF(flat), KIND_OF(t), 2.5, t->state, t->dimension, SETTINGS_OF(t, WINDOWS),
-        &named, &place);
+    const uint64_t number = t->warm_up_steps > 0
+        ? lyapunov_hand_in_with_options(
+            DISPATCHER_OF(flat), KIND_OF(t), 2.5, t->state, t->dimension,
+            SETTINGS_OF(t, WINDOWS), OPTIONS_OF(t), &named, &place)
+        : lyapunov_hand_in(
+            DISPATCHER_OF(flat), KIND_OF(t), 2.5, t->state, t->dimension,
+            SETTINGS_OF(t, WINDOWS), &named, &place);
 
     check(number == 0 && place == 0 && named == name, "handed in by flat arguments", t->name);
     check(admission.refusal.number == 0 && admission.refusal.place == 0
@@ -375,8 +442,9 @@ static void same_as_alone(const struct trial *t, struct left left[2])
     const size_t d = t->dimension;
     struct left alone;
     lent(&alone, d, d);
-    alone.number = lyapunov_estimate_spectrum_at(
-        SYSTEM_OF(t), 2.5, t->state, d, SETTINGS_OF(t, WINDOWS), OUTPUTS_OF(&alone, d, d));
+    alone.number = lyapunov_estimate_spectrum_at_with_options(
+        SYSTEM_OF(t), 2.5, t->state, d, SETTINGS_OF(t, WINDOWS), OPTIONS_OF(t),
+        OUTPUTS_OF(&alone, d, d));
     same(&left[0], &alone, "turns by structs", t->name);
     same(&left[1], &alone, "turns by flat arguments", t->name);
 }
@@ -453,18 +521,18 @@ static void systems(void)
     const double none[1] = {0.0};
     const struct trial trials[] = {
         {"Lorenz", lyapunov_lorenz(10.0, 28.0, 8.0 / 3.0),
-         LYAPUNOV_LORENZ, {10.0, 28.0, 8.0 / 3.0}, none, 0, {1.0, 1.0, 1.0}, 3, 3, 2, 7},
+         LYAPUNOV_LORENZ, {10.0, 28.0, 8.0 / 3.0}, none, 0, {1.0, 1.0, 1.0}, 3, 3, 2, 7, 8},
         {"Rossler", lyapunov_rossler(0.2, 0.25, 5.7),
-         LYAPUNOV_ROSSLER, {0.2, 0.25, 5.7}, none, 0, {1.0, 2.0, 0.5}, 3, 5, 0, 0},
+         LYAPUNOV_ROSSLER, {0.2, 0.25, 5.7}, none, 0, {1.0, 2.0, 0.5}, 3, 5, 0, 0, 4},
         {"van der Pol", lyapunov_van_der_pol(1.5),
-         LYAPUNOV_VAN_DER_POL, {1.5, 3.0, 3.0}, none, 0, {2.0, 0.25}, 2, 3, 1, UINT64_MAX},
+         LYAPUNOV_VAN_DER_POL, {1.5, 3.0, 3.0}, none, 0, {2.0, 0.25}, 2, 3, 1, UINT64_MAX, 0},
         {"linear", lyapunov_linear(3, lyapunov_lent_const(turning, 9)),
-         LYAPUNOV_LINEAR, {1.0, 2.0, 3.0}, turning, 9, {1.0, -1.0, 0.5}, 3, 2, 5, 1},
+         LYAPUNOV_LINEAR, {1.0, 2.0, 3.0}, turning, 9, {1.0, -1.0, 0.5}, 3, 2, 5, 1, 1},
         {"faint", lyapunov_linear(1, lyapunov_lent_const(shrinking, 1)),
-         LYAPUNOV_LINEAR, {0.0, 0.0, 0.0}, shrinking, 1, {1.0}, 1, 270, 1, 1},
+         LYAPUNOV_LINEAR, {0.0, 0.0, 0.0}, shrinking, 1, {1.0}, 1, 270, 1, 1, 0},
         /* The flat arguments lend it a matrix, which it does not read. */
         {"ring", lyapunov_lorenz96(5, 8.0),
-         LYAPUNOV_LORENZ96, {8.0, 3.0, 3.0}, turning, 9, {8.0, 8.5, 7.0, 8.0, 9.0}, 5, 3, 2, 7},
+         LYAPUNOV_LORENZ96, {8.0, 3.0, 3.0}, turning, 9, {8.0, 8.5, 7.0, 8.0, 9.0}, 5, 3, 2, 7, 3},
     };
     size_t i;
     for (i = 0; i < sizeof trials / sizeof *trials; i++) {
@@ -721,7 +789,7 @@ static void dispatchers(void)
     check(sizeof dispatcher->floats == 2568 * sizeof(double), "floats", "dispatcher");
     check(sizeof dispatcher->counts == 152 * sizeof(uint64_t), "counts", "dispatcher");
     check(sizeof dispatcher->settings == 32 * sizeof(double), "settings", "dispatcher");
-    check(sizeof dispatcher->queue == 65 * sizeof(uint64_t), "queue", "dispatcher");
+    check(sizeof dispatcher->queue == 73 * sizeof(uint64_t), "queue", "dispatcher");
     emptied(&guarded);
     refusal = lyapunov_dispatcher_hand_in(
         dispatcher, &lorenz, 0.0, lyapunov_lent_const(NULL, 3), &settings).refusal;
@@ -739,7 +807,7 @@ static void cells_refused(size_t cells, uint64_t number)
 {
     const double none[1] = {0.0};
     const struct trial t = {"cells", lyapunov_lorenz96(cells, 8.0), LYAPUNOV_LORENZ96,
-                            {8.0, 0.0, 0.0}, none, 0, {1.0, 2.0}, cells, 3, 0, 1};
+                            {8.0, 0.0, 0.0}, none, 0, {1.0, 2.0}, cells, 3, 0, 1, 0};
     struct lyapunov_settings settings = settings_of(&t);
     double state[2] = {1.0, 2.0};
     struct lyapunov_refusal refusal;
@@ -772,10 +840,14 @@ static void builder(void)
     check(built.refusal.number == 0 && built.refusal.place == 0, "accepted", "builder");
     check(memcmp(&built.settings.required, &needed, sizeof needed) == 0, "as given", "builder");
     check(built.settings.transient_windows == 0, "no warm-up windows", "builder");
+    check(built.settings.options_given == 0, "no options", "builder");
     check(built.settings.seed == LYAPUNOV_DEFAULT_SEED, "the default seed", "builder");
     changed = lyapunov_with_transient_windows(built.settings, 9);
     check(changed.transient_windows == 9 && changed.seed == LYAPUNOV_DEFAULT_SEED
               && memcmp(&changed.required, &needed, sizeof needed) == 0, "warm-up", "builder");
+    changed = lyapunov_with_steps_per_transient_window(built.settings, 9);
+    check(changed.options_given == 1 && changed.options[0] == 9 && changed.transient_windows == 0
+              && memcmp(&changed.required, &needed, sizeof needed) == 0, "their steps", "builder");
     changed = lyapunov_with_seed(built.settings, 9);
     check(changed.seed == 9 && changed.transient_windows == 0
               && memcmp(&changed.required, &needed, sizeof needed) == 0, "seed", "builder");
@@ -815,16 +887,16 @@ static void refused_settings(void)
 /* Each number has a sentence of its own. */
 static void texts(void)
 {
-    const char *unknown = lyapunov_refusal_text(29);
+    const char *unknown = lyapunov_refusal_text(30);
     uint64_t i, j;
-    for (i = 0; i <= 28; i++) {
+    for (i = 0; i <= 29; i++) {
         const char *text = lyapunov_refusal_text(i);
         check(strlen(text) > 10 && text[strlen(text) - 1] == '.', text, "a sentence");
         check(strcmp(text, unknown) != 0, text, "a known number");
         for (j = 0; j < i; j++)
             check(strcmp(text, lyapunov_refusal_text(j)) != 0, text, "another text");
     }
-    check(strcmp(unknown, "No refusal has this number.") == 0, unknown, "29");
+    check(strcmp(unknown, "No refusal has this number.") == 0, unknown, "30");
     check(lyapunov_refusal_text(UINT64_MAX) == unknown, unknown, "the largest number");
     check(strstr(lyapunov_refusal_text(14), "collapsed") != NULL, "collapse", "14");
     check(strstr(lyapunov_refusal_text(21), "256") != NULL, "rates", "21");
@@ -833,6 +905,7 @@ static void texts(void)
     check(strstr(lyapunov_refusal_text(26), "No state") != NULL, "no such number", "26");
     check(strstr(lyapunov_refusal_text(27), "Eight other") != NULL, "eight others", "27");
     check(strstr(lyapunov_refusal_text(28), "unfinished") != NULL, "eight runs", "28");
+    check(strstr(lyapunov_refusal_text(29), "warm-up") != NULL, "no steps", "29");
 }
 
 int main(void)

@@ -77,7 +77,7 @@ wrong() { # EDIT
 wrong 's/(settings\)->required\.)steps_per_window, \(settings\)->required\.windows/\1windows, (settings)->required.steps_per_window/'
 wrong 's/required->steps_per_window, required->windows,$/required->windows, required->steps_per_window,/'
 wrong 's/(\(settings\)->)transient_windows, \(settings\)->seed/\1seed, (settings)->transient_windows/'
-wrong 's/settings->transient_windows, &refusal/settings->required.windows, \&refusal/'
+wrong 's/settings->transient_windows, settings->options/settings->required.windows, settings->options/'
 wrong 's/^    settings\.seed = seed/    settings.transient_windows = seed/'
 wrong 's/^    system\.p1 = rho/    system.p1 = beta/; s/^    system\.p2 = beta/    system.p2 = rho/'
 wrong 's/^    system\.kind = LYAPUNOV_ROSSLER/    system.kind = LYAPUNOV_LORENZ/'
@@ -101,13 +101,13 @@ for name in STATES FLOATS COUNTS; do
 done
 kept='store->floats, store->counts'
 for call in keep go_on; do
-    in_call="/&run, lyapunov_$call\\($/,/;$/"
+    in_call="/&run, lyapunov_${call}_with_options\\($/,/;$/"
     wrong "$in_call{s/$kept, number,/$kept, (uint8_t)time,/; s/ time, / number, /}"
     wrong "$in_call s/$kept, number,/$kept, (uint8_t)(number \& 127),/"
 done
 wrong "s/lyapunov_forget\($kept, number\)/lyapunov_forget($kept, (uint8_t)(number + 1))/"
 wrong "s/lyapunov_forget\($kept, number\)/lyapunov_forget($kept, number) * 0/"
-wrong 's/^    return lyapunov_end_run\(&run, lyapunov_keep\(/    return lyapunov_end_run(\&run, lyapunov_go_on(/'
+wrong 's/^    return lyapunov_end_run\(&run, lyapunov_keep_with/    return lyapunov_end_run(\&run, lyapunov_go_on_with/'
 wrong 's/^    lyapunov_empty_store\(store->counts\)/    store->counts[0] = 0/'
 wrong 's/^    settings\.required\.windows = windows/    settings.transient_windows = windows/'
 wrong 's/\(run\)\.rows\.length/(run).rows.length + 1/'
@@ -140,4 +140,14 @@ wrong 's/(over \? turn\.estimate\.refusal\.place : ).*;/\10;/'
 for name in counts times; do wrong "s/^        run->$name\[i\] = 0/        run->${name}[i] = 1/"; done
 wrong 's/"Eight runs are unfinished\."/"Eight other numbers are kept."/'
 wrong 's/^ *"Eight runs are unfinished\.",//'
+wrong 's/\(settings\)->options, \(settings\)->options_given/(settings)->options, 0/'
+wrong 's/\(settings\)->options, \(settings\)->options_given/\&(settings)->required.windows, (settings)->options_given/'
+wrong 's/settings->options, settings->options_given/settings->options, 0/'
+wrong 's/^(    settings\.options\[.*\]) = steps/\1 = steps + 1/'
+wrong 's/^    settings\.options\[.*\] = steps/    settings.transient_windows = steps/'
+wrong 's/^    settings\.options_given = .*/    settings.options_given = 0;/'
+wrong 's/^    built\.settings\.options_given = 0/    built.settings.options_given = 1/'
+wrong 's/^    (LYAPUNOV_STEPS_PER_TRANSIENT_WINDOW) = 0/    \1 = 1/; s/^    (LYAPUNOV_OPTIONS) = 1/    \1 = 2/'
+wrong 's/"A warm-up window has no steps\."/"A window has no steps."/'
+wrong 's/^ *"A warm-up window has no steps\.",//'
 echo "$noticed wrong headers, each noticed"

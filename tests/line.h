@@ -45,20 +45,32 @@ static char *read_line(char *line) {
     return kind;
 }
 
-static const char *value_of(const char *name, int answered) {
+/* The value of a field, or NULL where there is none. */
+static const char *find_value(const char *name, int answered) {
     field *found = NULL;
     for (field *f = fields; f < fields + field_count; f++) {
         if (f->answered != answered || strcmp(f->name, name) != 0) continue;
         if (found != NULL) malformed("field twice", name);
         found = f;
     }
-    if (found == NULL) malformed("field missing", name);
+    if (found == NULL) return NULL;
     found->used = 1;
     return found->value;
 }
 
+static const char *value_of(const char *name, int answered) {
+    const char *value = find_value(name, answered);
+    if (value == NULL) malformed("field missing", name);
+    return value;
+}
+
 static const char *given(const char *name) {
     return value_of(name, 0);
+}
+
+/* One that may be left out. */
+static const char *given_or_null(const char *name) {
+    return find_value(name, 0);
 }
 
 static const char *answered(const char *name) {

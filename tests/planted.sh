@@ -534,6 +534,56 @@ for where in before behind; do
     done
 done
 
+# Steps of warm-up windows: in the list, and in libraries that test them or make them otherwise.
+with_options=lyapunov_estimate_spectrum_at_with_options
+settled=$(first '^run .*sys=lorenz .*warmup=2 warmupsteps=25 .*num=0 ')
+in_warm_up=$(first '^run .* faint in the warm-up alone')
+edited "$settled" 's/ warmupsteps=25//' 'lyapunov_estimate_spectrum_at: made, entry 0: 50, listed 80'
+edited "$settled" 's/warmupsteps=25/warmupsteps=24/' "$with_options: made, entry 0: 78, listed 80"
+edited "$settled" 's/steps=10/steps=25/; s/warmupsteps=25/warmupsteps=10/' "$with_options: made, entry 0: 95, listed 80"
+edited "$settled" 's/warmupsteps=25/warmupsteps=x/' 'malformed line 1: no decimal number: x'
+edited "$settled" 's/ warmupsteps=25/& warmupsteps=25/' 'malformed line 1: field twice: warmupsteps'
+wrong "$settled" 'options ignored' "$with_options: made, entry 0: 50, listed 80"
+wrong "$settled" 'steps exchanged' "$with_options: made, entry 0: 95, listed 80"
+wrong "$settled" 'steps without the warm-up' "$with_options: made, entry 0: 30, listed 80"
+wrong "$settled" 'D from the warm-up steps' "$with_options: mtime, entry 0: "
+wrong "$in_warm_up" 'faint counts without the warm-up' "$with_options: faint, entry 0: 0, listed 1"
+for kind in run validate build; do
+    without=$(first "^$kind .*num=29 .* 29 without warm-up windows")
+    call=$([ $kind = validate ] && echo lyapunov_validate_with_options || echo $with_options)
+    edited "$without" 's/num=29/num=3/' 'num, entry 0: 29, listed 3'
+    edited "$without" 's/(-> .*place=)0/\13/' 'place: 0, listed 3'
+    wrong "$without" '29 left out' "$call: num, entry 0: 0, listed 29"
+    wrong "$(first "^$kind .* 4 before 29")" '29 before 4' "$call: num, entry 0: 29, listed 4"
+    for count in steps windows warm-up; do
+        wrong "$(first "^$kind .* 29 before 5 at the $count\$")" '29 after 5' "$call: num, entry 0: 5, listed 29"
+    done
+    over_alone=$(first "^$kind .*num=5 place=3 ")
+    edited "$over_alone" 's/place=3/place=2/' 'place: 3, listed 2'
+    wrong "$over_alone" 'place 2 for 3' "$call: place: 2, listed 3"
+    wrong "$over_alone" "5 of warm-up steps left out" "$call: num, entry 0: "
+done
+
+# The same in a store and in a dispatcher.
+kept_so=$(first '^keep .*warmupsteps=25 ') no_steps=$(first '^go-on .*num=29 ')
+from_settled=$(lines "$emptied" "$kept_so" "$(first '^go-on .*warmupsteps=25 .*num=0 ')")
+edited "$from_settled" '2 s/ warmupsteps=25//' 'lyapunov_keep: made, entry 0: 40, listed 70'
+edited "$from_settled" '3 s/( made=)[0-9]*/\160/' 'lyapunov_go_on_with_options: made, entry 0: 100, listed 60'
+wrong "$from_settled" 'options ignored' 'lyapunov_keep_with_options: made, entry 0: 40, listed 70'
+wrong "$(lines "$emptied" "$kept_so" "$no_steps")" 'options ignored' 'lyapunov_go_on_with_options: num, entry 0: 0, listed 29'
+handed_in=$(lines 'dispatcher id=planted ->' "$(first '^hand-in .*num=29 ')")
+edited "$handed_in" '2 s/warmupsteps=0/warmupsteps=1/' 'lyapunov_hand_in_with_options: num, entry 0: 0, listed 29'
+wrong "$handed_in" 'options ignored' 'lyapunov_hand_in_with_options: num, entry 0: 0, listed 29'
+mistaken 'options ignored' 'lyapunov_turn: '
+for where in before behind changed; do
+    memory=$([ $where = changed ] && echo 'memory of the input' || echo "memory $where")
+    wrong "$settled" "options $where" "$with_options: $memory options was written"
+    wrong "$(first '^validate .*warmupsteps=')" "options $where" "lyapunov_validate_with_options: $memory options was written"
+    wrong "$from_settled" "options $where" "lyapunov_keep_with_options: $memory options was written"
+    wrong "$from_settled" "options $where" "lyapunov_go_on_with_options: $memory options was written"
+    wrong "$handed_in" "options $where" "lyapunov_hand_in_with_options: $memory options was written"
+done
+
 # Programs: the right answer and then something else.
 stand_in() { # COMMAND MESSAGE: a program that runs the right one and then the command
     first '^prog .*out=refused_21' >"$list"

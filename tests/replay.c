@@ -1,8 +1,10 @@
 /* Replays a list of inputs and answers against the static library: replay LIST SPECTRUM.
  * SPECTRUM is the program of that name, for the cases that are its input. The list says how its
  * lines read. A run from time 0 is asked of lyapunov_estimate_spectrum too, and of
- * lyapunov_estimate_largest where its settings are those that this sets. A list has one store of
- * kept states and one dispatcher, which its lines change in their order.
+ * lyapunov_estimate_largest where its settings are those that this sets. A line that gives the steps
+ * of a warm-up window is asked of the functions with options, and any other of those without; of
+ * the others a run, its tests and a going on are asked of both, with no options and with equal steps. A
+ * list has one store of kept states and one dispatcher, which its lines change in their order.
  * Exit status: 0 every answer is met, 1 one is not, 2 the list or the usage is wrong. */
 #include <signal.h>
 #include <stdarg.h>
@@ -153,9 +155,11 @@ static circuit read_circuit(void) {
 #define CIRCUIT_OF(c) KIND_OF(c), SLICE_OF((c).matrix)
 #define KIND_OF(c) (c).kind, (c).p[0], (c).p[1], (c).p[2], (c).dimension
 #define RUN_OF(r, o) START_OF(r), OUTPUTS_OF(o)
+#define RUN_WITH_OPTIONS_OF(r, o) START_OF(r), OPTIONS_OF(r), OUTPUTS_OF(o)
 #define START_OF(r) \
     SLICE_OF((r)->start), (r)->top_k, (r)->step_size, (r)->steps, (r)->windows, (r)->warm_up, \
         (r)->seed
+#define OPTIONS_OF(r) words((r)->options), (r)->options->length
 #define OUTPUTS_OF(o) SLICES_OF(o), words((o)->counts), doubles((o)->times)
 #define SLICES_OF(o) SLICE_OF((o)->rows), SLICE_OF((o)->exponents), SLICE_OF((o)->state)
 #define SLICE_OF(l) doubles(l), (l)->length
@@ -228,6 +232,7 @@ typedef struct {
     size_t top_k;
     double step_size;
     uint64_t steps, windows, warm_up, seed;
+    const lent *options; /* NULL for the functions without options */
     store store;
 } run;
 
@@ -235,13 +240,21 @@ typedef struct {
     const lent *rows, *exponents, *state, *counts, *times;
 } outputs;
 
+static const lent *lend_options(uint64_t warm_up_steps) {
+    lent *options = lend("options", INPUT, LYAPUNOV_OPTIONS);
+    set_entry(options, LYAPUNOV_STEPS_PER_TRANSIENT_WINDOW, warm_up_steps);
+    return options;
+}
+
 static void read_settings(run *r) {
+    const char *warm_up_steps = given_or_null("warmupsteps");
     r->top_k = decimal(given("K"));
     r->step_size = number(given("h"));
     r->steps = decimal(given("steps"));
     r->windows = decimal(given("windows"));
     r->warm_up = decimal(given("warmup"));
     r->seed = bits(given("seed"));
+    if (warm_up_steps != NULL) r->options = lend_options(decimal(warm_up_steps));
 }
 
 static outputs lend_outputs(size_t rows, size_t exponents, size_t state) {
@@ -256,8 +269,13 @@ static outputs given_outputs(void) {
 }
 
 static uint64_t spectrum_at(const run *r, const outputs *o) {
-    asked = "lyapunov_estimate_spectrum_at";
-    return lyapunov_estimate_spectrum_at(CIRCUIT_OF(r->circuit), r->time, RUN_OF(r, o));
+    if (r->options == NULL) {
+        asked = "lyapunov_estimate_spectrum_at";
+        return lyapunov_estimate_spectrum_at(CIRCUIT_OF(r->circuit), r->time, RUN_OF(r, o));
+    }
+    asked = "lyapunov_estimate_spectrum_at_with_options";
+    return lyapunov_estimate_spectrum_at_with_options(CIRCUIT_OF(r->circuit), r->time,
+                                                      RUN_WITH_OPTIONS_OF(r, o));
 }
 
 static uint64_t spectrum_from_zero(const run *r, const outputs *o) {
@@ -274,16 +292,26 @@ static uint64_t largest(const run *r, const outputs *o) {
         OUTPUTS_OF(o));
 }
 
+#define STORE_OF(s) doubles((s).floats), words((s).counts), (s).number
+
 static uint64_t keep(const run *r, const outputs *o) {
-    asked = "lyapunov_keep";
-    return lyapunov_keep(doubles(r->store.floats), words(r->store.counts), r->store.number,
-                         CIRCUIT_OF(r->circuit), r->time, RUN_OF(r, o));
+    if (r->options == NULL) {
+        asked = "lyapunov_keep";
+        return lyapunov_keep(STORE_OF(r->store), CIRCUIT_OF(r->circuit), r->time, RUN_OF(r, o));
+    }
+    asked = "lyapunov_keep_with_options";
+    return lyapunov_keep_with_options(STORE_OF(r->store), CIRCUIT_OF(r->circuit), r->time,
+                                      RUN_WITH_OPTIONS_OF(r, o));
 }
 
 static uint64_t go_on(const run *r, const outputs *o) {
-    asked = "lyapunov_go_on";
-    return lyapunov_go_on(doubles(r->store.floats), words(r->store.counts), r->store.number,
-                          CIRCUIT_OF(r->circuit), r->time, RUN_OF(r, o));
+    if (r->options == NULL) {
+        asked = "lyapunov_go_on";
+        return lyapunov_go_on(STORE_OF(r->store), CIRCUIT_OF(r->circuit), r->time, RUN_OF(r, o));
+    }
+    asked = "lyapunov_go_on_with_options";
+    return lyapunov_go_on_with_options(STORE_OF(r->store), CIRCUIT_OF(r->circuit), r->time,
+                                       RUN_WITH_OPTIONS_OF(r, o));
 }
 
 /* Refusal 5 has the same place for other K and other lengths of the outputs. */
@@ -308,14 +336,21 @@ static uint64_t build(const run *r, const lent *place) {
     return lyapunov_build_config(r->top_k, r->step_size, r->steps, r->windows, words(place));
 }
 
-/* The builder, which knows of no warm-up windows: where they are the first over, it accepts. */
+/* Whether the builder, which knows of no warm-up, answers as it must where that is what the listed
+ * refusal is about: by 5 at the first of the other counts that is over, if one is. */
+static int built_without_warm_up(const run *r, uint64_t num, uint64_t place) {
+    uint64_t first = r->steps > LYAPUNOV_MAX_COUNT ? 0 : 1;
+    int over = r->steps > LYAPUNOV_MAX_COUNT || r->windows > LYAPUNOV_MAX_COUNT;
+    return number_is("num", 0, num, over ? 5 : 0) && number_is("place", 0, place, over ? first : 0);
+}
+
 static int replay_builder(const run *r) {
     const lent *place = lend("place", OUTPUT, 1), *again = lend("place", OUTPUT, 1);
-    uint64_t num = build(r, place);
+    uint64_t num = build(r, place), listed = decimal(answered("num"));
     run other = *r;
     if (!memory_kept()) return 0;
-    if (decimal(answered("num")) == 5 && listed_place() == 2)
-        return number_is("num", 0, num, 0) && number_is("place", 0, entry(place, 0), 0);
+    if (listed == 29 || (listed == 5 && listed_place() > 1))
+        return built_without_warm_up(r, num, entry(place, 0));
     if (!refused_as(num, entry(place, 0))) return 0;
     if (num != 5) return 1;
     other.top_k = 17;
@@ -369,16 +404,26 @@ static int run_is(const run *r, uint64_t (*call)(const run *, const outputs *)) 
     return memory_kept() && refused_as(num, place) && outputs_are(&o);
 }
 
-/* The tests 1 to 12 and 25 alone: they pass what is refused by a later one, or by none. */
+#define INPUT_OF(r) \
+    CIRCUIT_OF((r)->circuit), (r)->time, SLICE_OF((r)->start), (r)->top_k, (r)->step_size, \
+        (r)->steps, (r)->windows, (r)->warm_up
+
+static uint64_t validate(const run *r, const lent *place) {
+    if (r->options == NULL) {
+        asked = "lyapunov_validate";
+        return lyapunov_validate(INPUT_OF(r), words(place));
+    }
+    asked = "lyapunov_validate_with_options";
+    return lyapunov_validate_with_options(INPUT_OF(r), OPTIONS_OF(r), words(place));
+}
+
+/* The tests 1 to 12, 25 and 29 alone: they pass what is refused by a later one, or by none. */
 static int input_is(const run *r) {
     const lent *place = lend("place", OUTPUT, 1);
-    asked = "lyapunov_validate";
-    uint64_t num = lyapunov_validate(
-        CIRCUIT_OF(r->circuit), r->time, SLICE_OF(r->start), r->top_k, r->step_size, r->steps,
-        r->windows, r->warm_up, words(place));
+    uint64_t num = validate(r, place);
     if (!memory_kept()) return 0;
     uint64_t listed = decimal(answered("num"));
-    if (listed <= 12 || listed == 25) return refused_as(num, entry(place, 0));
+    if (listed <= 12 || listed == 25 || listed == 29) return refused_as(num, entry(place, 0));
     return number_is("num", 0, num, 0) && number_is("place", 0, entry(place, 0), 0);
 }
 
@@ -396,16 +441,31 @@ static run read_run(void) {
     return r;
 }
 
+/* Where no steps are given: no options, and equal steps, are answered as listed too. */
+static int same_with_options(const run *r, int (*is)(const run *)) {
+    if (r->options != NULL) return 1;
+    run other = *r;
+    other.options = lend("options", INPUT, 0);
+    if (!is(&other)) return 0;
+    other.options = lend_options(r->steps);
+    return is(&other);
+}
+
+static int run_at_is(const run *r) {
+    return run_is(r, spectrum_at);
+}
+
 static int replay_validate(void) {
     run r = read_run();
-    return input_is(&r);
+    return input_is(&r) && same_with_options(&r, input_is);
 }
 
 static int replay_run(void) {
     run r = read_run();
-    if (!run_is(&r, spectrum_at) || !input_is(&r)) return 0;
+    if (!run_at_is(&r) || !input_is(&r)) return 0;
+    if (!same_with_options(&r, run_at_is) || !same_with_options(&r, input_is)) return 0;
     if (decimal(answered("num")) == 5 && !place_is_fixed(&r, listed_place())) return 0;
-    if (bits_of(r.time) != 0) return 1;
+    if (bits_of(r.time) != 0 || r.options != NULL) return 1;
     if (!run_is(&r, spectrum_from_zero)) return 0;
     if (r.top_k != 1 || r.warm_up != 0 || r.seed != LYAPUNOV_DEFAULT_SEED) return 1;
     return run_is(&r, largest);
@@ -492,13 +552,17 @@ static int replay_keep(void) {
     uint64_t num = decimal(answered("num"));
     take_store_back(&r.store);
     if (!met || (num != 0 && (!stays(r.store.floats) || !stays(r.store.counts)))) return 0;
-    return num == 27 || run_is(&r, spectrum_at);
+    return num == 27 || run_at_is(&r);
+}
+
+static int going_on_is(const run *r) {
+    return run_is(r, go_on);
 }
 
 static int replay_go_on(void) {
     run r = read_run();
     r.store = given_store(INPUT, INPUT);
-    return run_is(&r, go_on);
+    return going_on_is(&r) && same_with_options(&r, going_on_is);
 }
 
 /* A going on from it is refused by 26, with settings and slices that the other tests refuse too. */
@@ -569,13 +633,22 @@ static int replay_next(void) {
     return next_is(a.of[QUEUE], decimal(answered("name"))) && dispatcher_stays(&a);
 }
 
+static uint64_t hand_in(const run *r, const arrays *a, const lent *name, const lent *place) {
+    if (r->options == NULL) {
+        asked = "lyapunov_hand_in";
+        return lyapunov_hand_in(ARRAYS_OF(*a), KIND_OF(r->circuit), r->time, START_OF(r),
+                                words(name), words(place));
+    }
+    asked = "lyapunov_hand_in_with_options";
+    return lyapunov_hand_in_with_options(ARRAYS_OF(*a), KIND_OF(r->circuit), r->time, START_OF(r),
+                                         OPTIONS_OF(r), words(name), words(place));
+}
+
 static int replay_hand_in(void) {
     run r = read_handed_in();
     arrays a = given_dispatcher(BOTH);
     const lent *name = lend("name", OUTPUT, 1), *place = lend("place", OUTPUT, 1);
-    asked = "lyapunov_hand_in";
-    uint64_t num = lyapunov_hand_in(ARRAYS_OF(a), KIND_OF(r.circuit), r.time, START_OF(&r),
-                                    words(name), words(place));
+    uint64_t num = hand_in(&r, &a, name, place);
     take_dispatcher_back(&a);
     return memory_kept() && refused_as(num, entry(place, 0)) &&
            number_is("name", 0, entry(name, 0), decimal(answered("name"))) &&

@@ -18,6 +18,11 @@
 #define lyapunov_hand_in __real_lyapunov_hand_in
 #define lyapunov_next __real_lyapunov_next
 #define lyapunov_turn __real_lyapunov_turn
+#define lyapunov_validate_with_options __real_lyapunov_validate_with_options
+#define lyapunov_estimate_spectrum_at_with_options __real_lyapunov_estimate_spectrum_at_with_options
+#define lyapunov_keep_with_options __real_lyapunov_keep_with_options
+#define lyapunov_go_on_with_options __real_lyapunov_go_on_with_options
+#define lyapunov_hand_in_with_options __real_lyapunov_hand_in_with_options
 #define lyapunov_kaplan_yorke_dimension __real_lyapunov_kaplan_yorke_dimension
 #define lyapunov_kolmogorov_sinai_entropy __real_lyapunov_kolmogorov_sinai_entropy
 #include "lyapunov.h"
@@ -26,7 +31,7 @@
 #include <stdlib.h>
 #include <string.h>
 
-enum { MOST_SLICES = 11, MOST_ENTRIES = LYAPUNOV_STORE_FLOATS };
+enum { MOST_SLICES = 12, MOST_ENTRIES = LYAPUNOV_STORE_FLOATS };
 
 static struct {
     const char *name;
@@ -480,6 +485,21 @@ static uint64_t admitted_otherwise(uint64_t n, uint64_t kind, uint64_t test, uin
     return 9;
 }
 
+/* Takes notice of a run that is taken, and spoils its name. */
+static void note_hand_in(uint64_t n, uint64_t *name, size_t dimension, size_t top_k) {
+    if (n != 0) {
+        change_an_array("refused hand-in changes");
+        return;
+    }
+    runs[*name].dimension = dimension;
+    runs[*name].top_k = top_k;
+    if (is_wrong("new run", "in front")) put_in_front = *name;
+    if (is_wrong("name by", "count")) *name = unfinished;
+    if (is_wrong("finished run", "keeps its name")) *name = ever_taken;
+    unfinished++;
+    ever_taken++;
+}
+
 uint64_t __wrap_lyapunov_hand_in(double *run_floats, uint64_t *run_counts, double *run_settings,
                                  uint64_t *queue, SYSTEM_PARAMETERS, START_PARAMETERS,
                                  uint64_t *name, uint64_t *place) {
@@ -489,16 +509,7 @@ uint64_t __wrap_lyapunov_hand_in(double *run_floats, uint64_t *run_counts, doubl
     handed("place", place, 1);
     uint64_t test_place, n = lyapunov_hand_in(DISPATCHER, kind, p0, p1, p2, dimension,
                                               START_FOR(windows), name, place);
-    if (n != 0) change_an_array("refused hand-in changes");
-    if (n == 0) {
-        runs[*name].dimension = state_len;
-        runs[*name].top_k = top_k;
-        if (is_wrong("new run", "in front")) put_in_front = *name;
-        if (is_wrong("name by", "count")) *name = unfinished;
-        if (is_wrong("finished run", "keeps its name")) *name = ever_taken;
-        unfinished++;
-        ever_taken++;
-    }
+    note_hand_in(n, name, state_len, top_k);
     uint64_t test = lyapunov_build_config(top_k, step_size, steps_per_window, windows, &test_place);
     return spoiled(admitted_otherwise(n, kind, test, test_place, name, place));
 }
@@ -560,6 +571,125 @@ uint64_t __wrap_lyapunov_turn(double *run_floats, uint64_t *run_counts, const do
     if (stage >= LYAPUNOV_STAGE_UNDER_WAY && is_wrong("row", "at place 0"))
         put_row_first(rows, rows_len, 1 + 2 * runs[event[LYAPUNOV_EVENT_NAME]].top_k);
     if (is_wrong("begun", "one less")) event[LYAPUNOV_EVENT_BEGUN] -= 1;
+    return spoiled(n);
+}
+
+#define OPTION_PARAMETERS const uint64_t *options, size_t options_len
+#define OPTIONS_READ options, options_read(options_len)
+#define HANDED_OPTIONS() handed("options", options, options_len)
+
+/* How many options are read: none where they are ignored. */
+static size_t options_read(size_t options_len) {
+    return is_wrong("options", "ignored") ? 0 : options_len;
+}
+
+/* Tests of the steps of a warm-up window that are left out, made too early or made too late:
+ * `without` is what the run is refused by with equal steps. */
+static uint64_t tested_at_another_turn(uint64_t n, uint64_t *place, OPTION_PARAMETERS,
+                                       uint64_t without, uint64_t place_without) {
+    int has_no_steps = options_len > 0 && options[0] == 0;
+    if (n == 4 && has_no_steps && is_wrong("29 before", "4")) return 29;
+    if (n == 5 && *place == 3 && is_wrong("place 2", "for 3")) *place = 2;
+    if (n == 5 && *place == 3 && is_wrong("5 of warm-up steps", "left out")) n = without;
+    if (n != 29) return n;
+    if (is_wrong("29", "left out") || (without == 5 && is_wrong("29 after", "5"))) {
+        *place = place_without;
+        return without;
+    }
+    return n;
+}
+
+uint64_t __wrap_lyapunov_validate_with_options(
+    uint64_t kind, double p0, double p1, double p2, size_t dimension, MATRIX_PARAMETERS,
+    double time, const double *state, size_t state_len, size_t top_k, double step_size,
+    uint64_t steps_per_window, uint64_t windows, uint64_t transient_windows, OPTION_PARAMETERS,
+    uint64_t *place) {
+    uint64_t without, place_without, n;
+    handed("matrix", matrix, matrix_len);
+    handed("state", state, state_len);
+    HANDED_OPTIONS();
+    handed("place", place, 1);
+    n = lyapunov_validate_with_options(
+        kind, p0, p1, p2, dimension, matrix, matrix_len, time, state, state_len, top_k, step_size,
+        steps_per_window, windows, transient_windows, OPTIONS_READ, place);
+    without = lyapunov_validate(
+        kind, p0, p1, p2, dimension, matrix, matrix_len, time, state, state_len, top_k, step_size,
+        steps_per_window, windows, transient_windows, &place_without);
+    return spoiled(
+        tested_at_another_turn(n, place, options, options_len, without, place_without));
+}
+
+/* A run of which every window has the steps of the other sort: the other way round. */
+static uint64_t exchanged(SYSTEM_PARAMETERS, MATRIX_PARAMETERS, START_PARAMETERS,
+                          OPTION_PARAMETERS, SLICE_PARAMETERS, uint64_t *counts, double *times) {
+    uint64_t other = steps_per_window;
+    if (options_len == 0) return lyapunov_estimate_spectrum_at(INPUTS_FOR(windows), OUTPUTS);
+    steps_per_window = options[0];
+    return lyapunov_estimate_spectrum_at_with_options(INPUTS_FOR(windows), &other, 1, OUTPUTS);
+}
+
+uint64_t __wrap_lyapunov_estimate_spectrum_at_with_options(
+    SYSTEM_PARAMETERS, MATRIX_PARAMETERS, START_PARAMETERS, OPTION_PARAMETERS, SLICE_PARAMETERS,
+    uint64_t *counts, double *times) {
+    uint64_t without, n;
+    HANDED_RUN();
+    HANDED_OPTIONS();
+    if (is_wrong("steps", "exchanged"))
+        return spoiled(exchanged(INPUTS_FOR(windows), options, options_len, OUTPUTS));
+    n = lyapunov_estimate_spectrum_at_with_options(INPUTS_FOR(windows), OPTIONS_READ, OUTPUTS);
+    if (n == 4 || n == 5 || n == 29) {
+        without = lyapunov_estimate_spectrum_at(INPUTS_FOR(windows), UNSEEN);
+        n = tested_at_another_turn(n, counts + LYAPUNOV_PLACE, options, options_len, without,
+                                   unseen.counts[LYAPUNOV_PLACE]);
+    }
+    if (n == 0 && is_wrong("faint counts", "without the warm-up")) {
+        lyapunov_estimate_spectrum_at(
+            kind, p0, p1, p2, dimension, matrix, matrix_len, time, state, state_len, top_k,
+            step_size, steps_per_window, windows, 0, seed, UNSEEN);
+        memcpy(counts + LYAPUNOV_FAINT, unseen.counts + LYAPUNOV_FAINT, 16 * sizeof *counts);
+    }
+    if (n == 0 && is_wrong("steps", "without the warm-up"))
+        counts[LYAPUNOV_STEPS] = windows * steps_per_window;
+    if (n == 0 && options_len > 0 && is_wrong("D from", "the warm-up steps"))
+        times[LYAPUNOV_MEASURED_TIME] = step_size * (double)options[0] * (double)windows;
+    return spoiled(n);
+}
+
+uint64_t __wrap_lyapunov_keep_with_options(
+    double *store_floats, uint64_t *store_counts, uint8_t number, SYSTEM_PARAMETERS,
+    MATRIX_PARAMETERS, START_PARAMETERS, OPTION_PARAMETERS, SLICE_PARAMETERS, uint64_t *counts,
+    double *times) {
+    handed("store_floats", store_floats, LYAPUNOV_STORE_FLOATS);
+    handed("store_counts", store_counts, LYAPUNOV_STORE_COUNTS);
+    HANDED_RUN();
+    HANDED_OPTIONS();
+    return spoiled(lyapunov_keep_with_options(store_floats, store_counts, number,
+                                              INPUTS_FOR(windows), OPTIONS_READ, OUTPUTS));
+}
+
+uint64_t __wrap_lyapunov_go_on_with_options(
+    const double *store_floats, const uint64_t *store_counts, uint8_t number, SYSTEM_PARAMETERS,
+    MATRIX_PARAMETERS, START_PARAMETERS, OPTION_PARAMETERS, SLICE_PARAMETERS, uint64_t *counts,
+    double *times) {
+    handed("store_floats", store_floats, LYAPUNOV_STORE_FLOATS);
+    handed("store_counts", store_counts, LYAPUNOV_STORE_COUNTS);
+    HANDED_RUN();
+    HANDED_OPTIONS();
+    return spoiled(lyapunov_go_on_with_options(store_floats, store_counts, number,
+                                               INPUTS_FOR(windows), OPTIONS_READ, OUTPUTS));
+}
+
+uint64_t __wrap_lyapunov_hand_in_with_options(
+    double *run_floats, uint64_t *run_counts, double *run_settings, uint64_t *queue,
+    SYSTEM_PARAMETERS, START_PARAMETERS, OPTION_PARAMETERS, uint64_t *name, uint64_t *place) {
+    HANDED_DISPATCHER();
+    handed("state", state, state_len);
+    HANDED_OPTIONS();
+    handed("name", name, 1);
+    handed("place", place, 1);
+    uint64_t n = lyapunov_hand_in_with_options(DISPATCHER, kind, p0, p1, p2, dimension,
+                                               START_FOR(windows), OPTIONS_READ, name, place);
+    note_hand_in(n, name, state_len, top_k);
     return spoiled(n);
 }
 

@@ -17,24 +17,40 @@ use Rattle.system.specs.declared.System.{System}
 use Rattle.system_validation.specs.Tests.{matrix_tests, time_tests}
 use Rattle.system_validation.proofs.Tests.{dimension_passed, matrix_passed, length_passed, time_passed}
 use Rattle.benettin.specs.Run.{count_tests, output_tests, input_tests, run_tests}
+use Rattle.benettin.specs.declared.BenettinConfig.{BenettinConfig}
 use Rattle.benettin.specs.declared.OutputLengths.{OutputLengths}
-use Rattle.benettin.specs.Estimate.{Input, limit, setting_tests, is_none, state_tests, set_up_tests, start_tests, problem_within, dynamics}
+use Rattle.benettin.specs.Estimate.{Input, limit, setting_tests, config_tests, is_none, state_tests, set_up_tests, start_tests, problem_within, dynamics}
 use Rattle.benettin.specs.Validation.{Ready}
 
 -- ---- what passing a block gives
 
-module _ (K : ℕ) (h : Float) (steps later total warm_up : ℕ) where
-  pub settings_passed : none ≡ first_failing (setting_tests K h steps later total warm_up)
-      → (0 < K) × (positive h ≡ true) × (0 < steps) × (0 < later) × (steps ≤ limit) × (total ≤ limit) × (warm_up ≤ limit)
+module _ (K : ℕ) (h : Float) (steps later total warm_up warm_up_steps : ℕ) where
+  pub settings_passed : none ≡ first_failing (setting_tests K h steps later total warm_up warm_up_steps)
+      → (0 < K) × (positive h ≡ true) × (0 < steps) × (0 < later) × (steps ≤ limit) × (total ≤ limit) × (warm_up ≤ limit) × (warm_up_steps ≤ limit)
   settings_passed e₁ =
       let p₁ = passed _ _ e₁ in
       let p₂ = passed _ _ p₁.1 in
       let p₃ = passed _ _ p₂.1 in
       let p₄ = passed _ _ p₃.1 in
-      let q₀ = passed _ _ p₄.1 in
+      let p₅ = passed _ _ p₄.1 in
+      let q₀ = passed _ _ p₅.1 in
       let q₁ = passed _ _ q₀.1 in
       let q₂ = passed _ _ q₁.1 in
-      (ltb-true 0 K p₁.0, p₂.0, ltb-true 0 steps p₃.0, ltb-true 0 later p₄.0, leb-true steps limit q₀.0, leb-true total limit q₁.0, leb-true warm_up limit q₂.0)
+      let q₃ = passed _ _ q₂.1 in (
+        ltb-true 0 K p₁.0,
+        p₂.0,
+        ltb-true 0 steps p₃.0,
+        ltb-true 0 later p₄.0,
+        leb-true steps limit q₀.0,
+        leb-true total limit q₁.0,
+        leb-true warm_up limit q₂.0,
+        leb-true warm_up_steps limit q₃.0,
+      )
+
+-- of settings as the code holds them
+pub config_passed : (total : ℕ) (c : BenettinConfig) → none ≡ first_failing (config_tests total c)
+    → (0 < c.top_k) × (positive c.step_size ≡ true) × (0 < c.steps_per_window) × (0 < c.windows) × (c.steps_per_window ≤ limit) × (total ≤ limit) × (c.transient_windows ≤ limit) × (c.steps_per_transient_window ≤ limit)
+config_passed total c = settings_passed c.top_k c.step_size c.steps_per_window c.windows total c.transient_windows c.steps_per_transient_window
 
 finite_passed : (o : Option ℕ) (ts : List Test) → none ≡ first_failing (test (is_none o) 11 (get_or o 0) ∷ ts) → o ≡ none
 finite_passed none ts e = refl
@@ -59,7 +75,7 @@ module _ (K d windows : ℕ) (o : OutputLengths) where
 
 -- ---- all of them
 
--- what 1 to 8, with 25, give
+-- what 1 to 8, with 25 and 29, give
 pub record SetUp (total : ℕ) (i : Input) (K : ℕ) : Type 0 where
   pub dimension_above : 0 < dim i.system
   pub dimension_within : dim i.system ≤ 16
@@ -70,6 +86,7 @@ pub record SetUp (total : ℕ) (i : Input) (K : ℕ) : Type 0 where
   pub steps_limit : i.steps ≤ limit
   pub windows_limit : total ≤ limit
   pub warm_up_limit : i.warm_up ≤ limit
+  pub warm_up_steps_limit : i.warm_up_steps ≤ limit
 
 module _ (total : ℕ) (i : Input) (K : ℕ) where
   abbrev input_blocks : List Test
@@ -81,9 +98,9 @@ module _ (total : ℕ) (i : Input) (K : ℕ) where
 
   pub set_up : none ≡ first_failing (set_up_tests total i K) → SetUp total i K
   set_up e =
-      let a = both_passed (setting_tests K i.step_size i.steps i.windows total i.warm_up) _ e in
+      let a = both_passed (setting_tests K i.step_size i.steps i.windows total i.warm_up i.warm_up_steps) _ e in
       let b = both_passed (time_tests i.time) _ a.1 in
-      let settings = settings_passed K i.step_size i.steps i.windows total i.warm_up a.0 in
+      let settings = settings_passed K i.step_size i.steps i.windows total i.warm_up i.warm_up_steps a.0 in
       let dimension = dimension_passed i.system b.1 in
       record {
         dimension_above = dimension.0;
@@ -95,6 +112,7 @@ module _ (total : ℕ) (i : Input) (K : ℕ) where
         steps_limit = settings.4;
         windows_limit = settings.5;
         warm_up_limit = settings.6;
+        warm_up_steps_limit = settings.7;
       }
 
   pub ready : (o : OutputLengths) → none ≡ first_failing (run_tests (problem_within total i) K o) → Ready total i K o
@@ -122,6 +140,7 @@ module _ (total : ℕ) (i : Input) (K : ℕ) where
         steps_limit = s.steps_limit;
         windows_limit = s.windows_limit;
         warm_up_limit = s.warm_up_limit;
+        warm_up_steps_limit = s.warm_up_steps_limit;
         rows = outputs.0;
         exponents = outputs.1;
         state = outputs.2;

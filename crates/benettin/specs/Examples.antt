@@ -14,7 +14,7 @@ use Rattle.splitmix64.specs.Mix.{mix, unit}
 use Rattle.system.specs.declared.System.TheVariants.{VanDerPol, Linear, Lorenz96}
 use Rattle.benettin.specs.Run.{RunAnswer, ended, stopped, Row, lengths, faint_or_not}
 use Rattle.gram_schmidt.specs.GramSchmidt.{euclidean}
-use Rattle.benettin.specs.Estimate.{Input, limit, limit_tests, estimate, default_seed, configured, with_warm_up, with_seed}
+use Rattle.benettin.specs.Estimate.{Input, limit, limit_tests, setting_tests, estimate, default_seed, configured, with_warm_up, with_warm_up_steps, with_seed}
 use Rattle.benettin.specs.declared.BenettinConfig.{BenettinConfig}
 
 abbrev row_bits : Row → List ℕ
@@ -44,6 +44,7 @@ van_der_pol windows warm_up =
       steps = 2;
       windows = windows;
       warm_up = warm_up;
+      warm_up_steps = 2;
       seed = default_seed;
       time = whole 5;
       state = whole 3 ∷ whole 1 ∷ [];
@@ -58,6 +59,17 @@ pub van_der_pol_1 : answer_bits (estimate (van_der_pol 2 1) 1 (lengths 6 1 2)) �
     ∷ (0 ∷ []) ∷ (6 ∷ []) ∷ []
 unfolding estimate van_der_pol root log mix unit dot_from add sub mul div neg round of_int le lt eq to_bits of_bits
 van_der_pol_1 = refl
+
+-- the same with five steps in the warm-up window, held against the bits that host/model gives: the Rust has no such run
+pub van_der_pol_settled : answer_bits (estimate (record (van_der_pol 2 1) { warm_up_steps = 5 }) 1 (lengths 6 1 2)) ≡
+    (0x4017800000000000 ∷ 0x3fb1e307cb39d317 ∷ 0x3fb1e307cb39d317 ∷ [])
+    ∷ (0x4018800000000000 ∷ 0x3fb5bdc3ed90abc9 ∷ 0x3fb3d065dc653f70 ∷ [])
+    ∷ (0x3fb3d065dc653f70 ∷ [])
+    ∷ (0x4006e8f16576e55e ∷ 0xbfc94b78c4cdd1bf ∷ [])
+    ∷ (0x4018800000000000 ∷ 0x3fe0000000000000 ∷ [])
+    ∷ (0 ∷ []) ∷ (9 ∷ []) ∷ []
+unfolding estimate van_der_pol root log mix unit dot_from add sub mul div neg round of_int le lt eq to_bits of_bits
+van_der_pol_settled = refl
 
 -- rows one float short
 pub van_der_pol_short : answer_bits (estimate (van_der_pol 2 1) 1 (lengths 5 1 2)) ≡ (13 ∷ 0 ∷ 0 ∷ 0 ∷ []) ∷ (0 ∷ []) ∷ []
@@ -76,6 +88,7 @@ ring_of n =
       steps = 1;
       windows = 1;
       warm_up = 0;
+      warm_up_steps = 1;
       seed = default_seed;
       time = whole 5;
       state = whole 1 ∷ whole 2 ∷ whole 4 ∷ whole 3 ∷ [];
@@ -103,6 +116,7 @@ shear =
       steps = 1;
       windows = 1;
       warm_up = 0;
+      warm_up_steps = 1;
       seed = 2;
       time = whole 0;
       state = whole 0 ∷ whole 0 ∷ [];
@@ -126,7 +140,7 @@ faint_at = refl
 -- ---- settings
 
 abbrev built_settings : BenettinConfig
-built_settings = record { top_k = 3; step_size = half; steps_per_window = 10; windows = 200; transient_windows = 0; seed = 0x4c59_4150_554e_4f56 }
+built_settings = record { top_k = 3; step_size = half; steps_per_window = 10; windows = 200; transient_windows = 0; steps_per_transient_window = 10; seed = 0x4c59_4150_554e_4f56 }
 
 -- K 3, h 0.5, 10 steps, 200 windows; then a count at its limit and one above it
 pub settings_built : (configured 3 half 10 200 ≡ value built_settings)
@@ -135,13 +149,27 @@ unfolding configured first_failing lt
 settings_built = (refl, refl, refl, refl)
 
 -- each combination of counts at the limit and one above it
-abbrev over : ℕ → ℕ → ℕ → Option Refusal
-over steps windows warm_up = first_failing (limit_tests (limit + steps) (limit + windows) (limit + warm_up))
+abbrev over : ℕ → ℕ → ℕ → ℕ → Option Refusal
+over steps windows warm_up warm_up_steps = first_failing (limit_tests (limit + steps) (limit + windows) (limit + warm_up) (limit + warm_up_steps))
 
-pub first_over : (over 0 0 0 ≡ none) × (over 0 0 1 ≡ some (refuse 5 2)) × (over 0 1 0 ≡ some (refuse 5 1)) × (over 0 1 1 ≡ some (refuse 5 1))
-    × (over 1 0 0 ≡ some (refuse 5 0)) × (over 1 0 1 ≡ some (refuse 5 0)) × (over 1 1 0 ≡ some (refuse 5 0)) × (over 1 1 1 ≡ some (refuse 5 0))
+abbrev over_at : ℕ → Option Refusal
+over_at place = some (refuse 5 place)
+
+pub first_over : (over 0 0 0 0 ≡ none) × (over 0 0 0 1 ≡ over_at 3) × (over 0 0 1 0 ≡ over_at 2) × (over 0 0 1 1 ≡ over_at 2)
+    × (over 0 1 0 0 ≡ over_at 1) × (over 0 1 0 1 ≡ over_at 1) × (over 0 1 1 0 ≡ over_at 1) × (over 0 1 1 1 ≡ over_at 1)
+    × (over 1 0 0 0 ≡ over_at 0) × (over 1 0 0 1 ≡ over_at 0) × (over 1 0 1 0 ≡ over_at 0) × (over 1 0 1 1 ≡ over_at 0)
+    × (over 1 1 0 0 ≡ over_at 0) × (over 1 1 0 1 ≡ over_at 0) × (over 1 1 1 0 ≡ over_at 0) × (over 1 1 1 1 ≡ over_at 0)
 unfolding first_failing
-first_over = (refl, refl, refl, refl, refl, refl, refl, refl)
+first_over = (refl, refl, refl, refl, refl, refl, refl, refl, refl, refl, refl, refl, refl, refl, refl, refl)
+
+-- 29 behind 3 and 4, and before 5, also without warm-up windows
+abbrev settled : ℕ → ℕ → ℕ → ℕ → Option Refusal
+settled steps windows warm_up warm_up_steps = first_failing (setting_tests 1 half steps windows windows warm_up warm_up_steps)
+
+pub no_warm_up_steps : (settled 7 3 2 0 ≡ some (refuse 29 0)) × (settled 7 3 0 0 ≡ some (refuse 29 0)) × (settled 0 3 2 0 ≡ some (refuse 3 0)) × (settled 7 0 2 0 ≡ some (refuse 4 0))
+    × (settled 16777217 3 2 0 ≡ some (refuse 29 0)) × (settled 7 3 16777217 0 ≡ some (refuse 29 0)) × (settled 7 3 2 16777217 ≡ some (refuse 5 3)) × (settled 7 3 0 16777216 ≡ none)
+unfolding first_failing lt
+no_warm_up_steps = (refl, refl, refl, refl, refl, refl, refl, refl)
 
 -- a run with windows and warm-up windows over, and building with steps and windows over
 pub run_over : answer_bits (estimate (van_der_pol (limit + 1) (limit + 1)) 1 (lengths 6 1 2)) ≡ (5 ∷ 1 ∷ 0 ∷ 0 ∷ []) ∷ (0 ∷ []) ∷ []
@@ -153,6 +181,7 @@ unfolding configured first_failing lt
 build_over = refl
 
 pub settings_changed :
-    (with_warm_up 7 built_settings ≡ record { top_k = 3; step_size = half; steps_per_window = 10; windows = 200; transient_windows = 7; seed = 0x4c59_4150_554e_4f56 })
-    × (with_seed 9 built_settings ≡ record { top_k = 3; step_size = half; steps_per_window = 10; windows = 200; transient_windows = 0; seed = 9 })
-settings_changed = (refl, refl)
+    (with_warm_up 7 built_settings ≡ record { top_k = 3; step_size = half; steps_per_window = 10; windows = 200; transient_windows = 7; steps_per_transient_window = 10; seed = 0x4c59_4150_554e_4f56 })
+    × (with_warm_up_steps 11 built_settings ≡ record { top_k = 3; step_size = half; steps_per_window = 10; windows = 200; transient_windows = 0; steps_per_transient_window = 11; seed = 0x4c59_4150_554e_4f56 })
+    × (with_seed 9 built_settings ≡ record { top_k = 3; step_size = half; steps_per_window = 10; windows = 200; transient_windows = 0; steps_per_transient_window = 10; seed = 9 })
+settings_changed = (refl, refl, refl)

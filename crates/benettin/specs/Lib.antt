@@ -3,6 +3,7 @@ pub mod Run
 pub mod Estimate
 pub mod Outputs
 pub mod Refusals
+pub mod EqualSteps
 pub mod LeadingSpectrum
 pub mod LeadingOutputs
 pub mod Examples

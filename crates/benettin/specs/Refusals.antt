@@ -8,7 +8,7 @@ use Rattle.benettin.specs.Run.{Row, RunRefusal, stopped, run_tests}
 use Rattle.benettin.specs.Estimate.{Input, problem, estimate}
 use Rattle.benettin.specs.Outputs.{Call, Meets, lent, flat_rows}
 
--- A run refused before its basis is drawn, by a test of 1 to 13 or by 25, changes no slice.
+-- A run refused before its basis is drawn, by a test of 1 to 13 or by 25 or 29, changes no slice.
 abbrev pub EarlyRefusal : Type 0
 EarlyRefusal =
     (i : Input) (K : ℕ) (c : Call) (r : Refusal) → Meets i K c → first_failing (run_tests (problem i) K (lent c)) ≡ some r

@@ -37,7 +37,7 @@ pub record Problem : Type 0 where
   pub time : Float
   pub generator : Generator
   pub seed : ℕ
-  -- the tests 2 to 11 and 25, which depend on neither K nor the outputs
+  -- the tests 2 to 11, 25 and 29, which depend on neither K nor the outputs
   pub tests : List Test
 
 -- ---- a run under way
@@ -293,11 +293,11 @@ count_tests K d = test (leb K d) 12 0 ∷ []
 abbrev pub output_tests : ℕ → ℕ → ℕ → OutputLengths → List Test
 output_tests K d windows o = test (leb (windows * (1 + 2 * K)) o.rows) 13 0 ∷ test (leb K o.exponents) 13 1 ∷ test (leb d o.state) 13 2 ∷ []
 
--- 1 to 12 and 25, which do not depend on the outputs
+-- 1 to 12, 25 and 29, which do not depend on the outputs
 unfoldable pub input_tests : Problem → ℕ → List Test
 input_tests P K = top_k_tests K ++ P.tests ++ count_tests K P.dynamics.dim
 
--- 1 to 13, in number order, with 25 behind 8
+-- 1 to 13, in number order, with 29 behind 4 and 25 behind 8
 unfoldable pub run_tests : Problem → ℕ → OutputLengths → List Test
 unfolding input_tests
 run_tests P K o = input_tests P K ++ output_tests K P.dynamics.dim P.windows o

@@ -13,6 +13,7 @@ pub record Ready (total : ℕ) (i : Input) (K : ℕ) (o : OutputLengths) : Type 
   pub steps_limit : i.steps ≤ limit
   pub windows_limit : total ≤ limit
   pub warm_up_limit : i.warm_up ≤ limit
+  pub warm_up_steps_limit : i.warm_up_steps ≤ limit
   pub rows : i.windows * (1 + 2 * K) ≤ o.rows
   pub exponents : K ≤ o.exponents
   pub state : dim i.system ≤ o.state

@@ -3,8 +3,9 @@
 // specs/Run.antt defines a run over any dynamics, specs/Estimate.antt is document 01's run, specs/Outputs.antt is what it
 // leaves in the caller's slices, and the contract of a call (`Meets`). specs/Refusals.antt states what a refused call has
 // written. specs/LeadingSpectrum.antt states that the first rates hold still when more are asked for, and
-// specs/LeadingOutputs.antt states it of two calls. validation.rt makes the tests 1 to 13. Crate estimator runs: its code
-// meets the contract.
+// specs/LeadingOutputs.antt states it of two calls. specs/EqualSteps.antt states that a run whose warm-up windows have as many
+// steps as its measured ones is the run of one count of steps. validation.rt makes the tests 1 to 13, with 25 and 29. Crate
+// estimator runs: its code meets the contract.
 #![tactic(auto)]
 
 pub mod validation;
@@ -16,7 +17,7 @@ ghost use Rattle.benettin.specs.Outputs as Outputs;
 
 use error::LyapunovError;
 
-// The most that each of the three counts may be: 2^24.
+// The most that each of the four counts may be: 2^24.
 pub const COUNT_LIMIT: u64 = 16777216;
 
 // The seed of settings that name none.
@@ -30,6 +31,7 @@ pub struct BenettinConfig {
     pub steps_per_window: u64,
     pub windows: u64,
     pub transient_windows: u64,
+    pub steps_per_transient_window: u64,
     pub seed: u64,
 }
 
@@ -85,7 +87,8 @@ impl From<LyapunovError> for RefusedRun {
 }
 
 impl BenettinConfig {
-    // Settings with no warm-up windows and the default seed, tested by 1 to 5. Of two counts over, 5 names the steps.
+    // Settings with no warm-up windows, as many steps in one as in a measured window, and the default seed, tested by 1 to 5. Of
+    // two counts over, 5 names the steps.
     pub fn new(
         top_k: usize,
         step_size: f64,
@@ -100,6 +103,7 @@ impl BenettinConfig {
             steps_per_window,
             windows,
             transient_windows: 0,
+            steps_per_transient_window: steps_per_window,
             seed: DEFAULT_SEED,
         };
         validation::validate_settings(config, windows)?;
@@ -113,6 +117,16 @@ impl BenettinConfig {
     {
         BenettinConfig {
             transient_windows: windows,
+            ..self
+        }
+    }
+
+    // The settings with another count of steps in a warm-up window, which the run tests.
+    pub fn with_steps_per_transient_window(self, steps: u64) -> BenettinConfig
+        ensures { result ≡ Spec.with_warm_up_steps steps self }
+    {
+        BenettinConfig {
+            steps_per_transient_window: steps,
             ..self
         }
     }

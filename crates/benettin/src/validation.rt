@@ -1,5 +1,5 @@
-// The tests of a run, 1 to 13 with 25 behind 8: a function for each block of specs/Estimate.antt and of the end of
-// specs/Run.antt. Crate system_validation has the others: the system and what is lent beside it, 2 and 6.
+// The tests of a run, 1 to 13 with 29 behind 4 and 25 behind 8: a function for each block of specs/Estimate.antt and of the end
+// of specs/Run.antt. Crate system_validation has the others: the system and what is lent beside it, 2 and 6.
 #![tactic(auto, unfolding(error::specs::Tests::first_failing))]
 
 ghost use Rattle.std.specs.Prelude.{◌≡◌, ◌+◌, ◌*◌, List, leb, Float};
@@ -13,17 +13,26 @@ use crate::{BenettinConfig, OutputLengths};
 use error::LyapunovError;
 use system::System;
 
-// The tests 3 and 4.
-fn validate_nonzero(steps: u64, windows: u64) -> Result<(), LyapunovError>
-    ensures { reported result ≡ first_failing (Estimate.nonzero_tests steps windows) }
+// The tests 3, 4 and 29.
+fn validate_nonzero(steps: u64, windows: u64, transient_steps: u64) -> Result<(), LyapunovError>
+    ensures { reported result ≡ first_failing (Estimate.nonzero_tests steps windows transient_steps) }
 {
     error::test(0 < steps, LyapunovError::ZeroStepsPerWindow)?;
-    error::test(0 < windows, LyapunovError::ZeroWindows)
+    error::test(0 < windows, LyapunovError::ZeroWindows)?;
+    error::test(
+        0 < transient_steps,
+        LyapunovError::ZeroStepsPerTransientWindow,
+    )
 }
 
-// Test 5: the first count over the limit, in the order steps, windows, warm-up.
-fn validate_limits(steps: u64, windows: u64, warm_up: u64) -> Result<(), LyapunovError>
-    ensures { reported result ≡ first_failing (Estimate.limit_tests steps windows warm_up) }
+// Test 5: the first count over the limit, in the order steps, windows, warm-up, steps of a warm-up window.
+fn validate_limits(
+    steps: u64,
+    windows: u64,
+    warm_up: u64,
+    transient_steps: u64,
+) -> Result<(), LyapunovError>
+    ensures { reported result ≡ first_failing (Estimate.limit_tests steps windows warm_up transient_steps) }
 {
     error::test(
         steps <= crate::COUNT_LIMIT,
@@ -36,20 +45,24 @@ fn validate_limits(steps: u64, windows: u64, warm_up: u64) -> Result<(), Lyapuno
     error::test(
         warm_up <= crate::COUNT_LIMIT,
         LyapunovError::CountAboveLimit(2),
+    )?;
+    error::test(
+        transient_steps <= crate::COUNT_LIMIT,
+        LyapunovError::CountAboveLimit(3),
     )
 }
 
-// The tests 1 to 5. The windows of the settings are the last of `total`; any other run than one that goes on has the same
-// count twice.
+// The tests 1 to 5, with 29 behind 4. The windows of the settings are the last of `total`; any other run than one that goes on
+// has the same count twice.
 pub fn validate_settings(config: BenettinConfig, total: u64) -> Result<(), LyapunovError>
-    ensures { reported result ≡ first_failing
-        (Estimate.setting_tests config.top_k config.step_size config.steps_per_window config.windows total config.transient_windows) }
+    ensures { reported result ≡ first_failing (Estimate.config_tests total config) }
 {
     let steps = config.steps_per_window;
+    let transient_steps = config.steps_per_transient_window;
     error::test(0 < config.top_k, LyapunovError::ZeroTopK)?;
     system_validation::validate_step_size(config.step_size)?;
-    validate_nonzero(steps, config.windows)?;
-    validate_limits(steps, total, config.transient_windows)
+    validate_nonzero(steps, config.windows, transient_steps)?;
+    validate_limits(steps, total, config.transient_windows, transient_steps)
 }
 
 // Test 11.
@@ -113,8 +126,8 @@ pub fn validate_outputs(
     )
 }
 
-// The tests 1 to 8, with 25 behind 8. The windows of the settings are the last of `total`; any other run than one that goes on
-// has the same count twice.
+// The tests 1 to 8, with 29 behind 4 and 25 behind 8. The windows of the settings are the last of `total`; any other run than
+// one that goes on has the same count twice.
 pub fn validate_set_up(
     system: System,
     time: f64,

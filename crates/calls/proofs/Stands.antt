@@ -41,7 +41,7 @@ module _ (b : Brought) where
       let r = ready i.windows i K (lengths_of b.rows b.exponents b.final_state) p in
       let w = i.warm_up + i.windows in
       let m : MadeLogs (dim i.system) K (w * limit) w c =
-      subst (Either (MadeLogs (dim i.system) K (w * limit) w) Any) e (course_made (problem i) K (problem_keeps i) r.steps_limit r.steps_limit r.clock) in
+      subst (Either (MadeLogs (dim i.system) K (w * limit) w) Any) e (course_made (problem i) K (problem_keeps i) r.warm_up_steps_limit r.steps_limit r.clock) in
       let h = (stood_has i K c e).0 in
       record {
         stood = e;

@@ -123,18 +123,7 @@ own_matrix (Linear d) m = m
 own_matrix (Lorenz96 n F) m = []
 
 abbrev pub own : Input → Input
-own i =
-    record {
-      system = i.system;
-      matrix = own_matrix i.system i.matrix;
-      step_size = i.step_size;
-      steps = i.steps;
-      windows = i.windows;
-      warm_up = i.warm_up;
-      seed = i.seed;
-      time = i.time;
-      state = i.state;
-    }
+own i = record i { matrix = own_matrix i.system i.matrix }
 
 abbrev pub Same : Option Kept → Brought → Type 0
 Same none b = Unit {0}

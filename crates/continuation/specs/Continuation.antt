@@ -10,8 +10,7 @@ use Rattle.benettin.specs.Outputs.{Estimated, Call, outputs_from, outputs, lengt
 
 -- the same run with n measured windows
 abbrev pub with_windows : ℕ → Input → Input
-with_windows n i =
-    record { system = i.system; matrix = i.matrix; step_size = i.step_size; steps = i.steps; windows = n; warm_up = i.warm_up; seed = i.seed; time = i.time; state = i.state }
+with_windows n i = record i { windows = n }
 
 -- 1 to 13 of the run i, which goes on after a windows: 4 tests its own windows, 5 tests a and those, and 13 counts rows for its own
 abbrev pub later_tests : ℕ → Input → ℕ → OutputLengths → List Test

@@ -73,6 +73,7 @@ growing windows =
       steps = 1;
       windows = windows;
       warm_up = 1;
+      warm_up_steps = 1;
       seed = default_seed;
       time = whole 7;
       state = whole 1 ∷ [];

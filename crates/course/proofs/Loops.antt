@@ -33,11 +33,11 @@ use Rattle.course.specs.Course.{WarmedUp, written, windows_from, MeasuredWindows
 pub record Warming (S : System) (m : List Float) (c : BenettinConfig) (H₀ : Held) (w : ℕ) (H : Held) : Type 0 where
   pub fits : Fits S m c (limit + w) limit H
   pub bounded : Unmeasured c.top_k w H₀.progress (Ok H.progress)
-  pub rest : (D : ℕ) → (let go = warm_up (dynamics S m c.step_size D) c.steps_per_window in go (c.transient_windows - w) (run_state (dim S) c.top_k H) ≡ go c.transient_windows (run_state (dim S) c.top_k H₀))
+  pub rest : (D : ℕ) → (let go = warm_up (dynamics S m c.step_size D) c.steps_per_transient_window in go (c.transient_windows - w) (run_state (dim S) c.top_k H) ≡ go c.transient_windows (run_state (dim S) c.top_k H₀))
 
 module _ {S : System} {m : List Float} {c : BenettinConfig} {H₀ H : Held} {w : ℕ} (I : Warming S m c H₀ w H) where
   module _ (l : w < c.transient_windows) {x t ns : List Float} where
-    pub warming_next : {p : Progress} → Windowed S m c H x t ns (Ok p) → SameLengths H (held x t ns p) → Warming S m c H₀ (w + 1) (held x t ns p)
+    pub warming_next : {p : Progress} → Windowed S m c c.steps_per_transient_window H x t ns (Ok p) → SameLengths H (held x t ns p) → Warming S m c H₀ (w + 1) (held x t ns p)
     unfolding warm_up ◌then◌
     warming_next X s =
         let z : c.transient_windows - w ≡ suc (c.transient_windows - (w + 1)) = omega arith in
@@ -47,7 +47,7 @@ module _ {S : System} {m : List Float} {c : BenettinConfig} {H₀ H : Held} {w :
           rest = λ D. sym (rw (z, ← X.status D)) ∙ I.rest D;
         }
 
-    pub warming_refused : {r : RefusedRun} → Windowed S m c H x t ns (Err r) → WarmedUp S m c H₀ x t ns (Err r)
+    pub warming_refused : {r : RefusedRun} → Windowed S m c c.steps_per_transient_window H x t ns (Err r) → WarmedUp S m c H₀ x t ns (Err r)
     unfolding warm_up ◌then◌
     warming_refused X =
         let z : c.transient_windows - w ≡ suc (c.transient_windows - (w + 1)) = omega arith in

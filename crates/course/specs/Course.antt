@@ -14,7 +14,7 @@ use Rattle.progress.specs.UnderWay.{Unmeasured, AllMeasured, Recorded, recorded}
 
 -- the warm-up windows
 pub record WarmedUp (S : System) (m : List Float) (c : BenettinConfig) (H : Held) (x t ns : List Float) (r : Result Progress RefusedRun) : Type 0 where
-  pub status : (D : ℕ) → status (dim S) c.top_k x t ns r ≡ warm_up (dynamics S m c.step_size D) c.steps_per_window c.transient_windows (run_state (dim S) c.top_k H)
+  pub status : (D : ℕ) → status (dim S) c.top_k x t ns r ≡ warm_up (dynamics S m c.step_size D) c.steps_per_transient_window c.transient_windows (run_state (dim S) c.top_k H)
   pub bounded : Unmeasured c.top_k c.transient_windows H.progress r
 
 -- rows written from place a of the slice on

@@ -26,12 +26,15 @@ pub fn warm_up(
     config: BenettinConfig,
     progress: &mut Progress,
 ) -> Result<(), RefusedRun>
-    requires { Under.Fits system matrix.now config limit limit (held state.old tangents.old norms.old progress.old) × (config.transient_windows ≤ limit) }
+    requires { Under.Fits system matrix.now config limit limit (held state.old tangents.old norms.old progress.old) × (config.transient_windows ≤ limit) × (config.steps_per_transient_window ≤ limit) }
     ensures { Course.WarmedUp system matrix.now config (held state.old tangents.old norms.old progress.old)
         state.new tangents.new norms.new (carried progress.new result) }
 {
+    let steps = config.steps_per_transient_window;
     for _ in 0..config.transient_windows {
-        progress::window(system, matrix, state, tangents, norms, config, progress)?;
+        progress::window(
+            system, matrix, state, tangents, norms, config, steps, progress,
+        )?;
     }
     Ok(())
 }

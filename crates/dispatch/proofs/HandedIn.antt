@@ -50,9 +50,9 @@ module _ (i : Input) (K : ℕ) where
 -- ---- past the tests
 
 -- the counts of a new run leave the length of the queue
-pub count_kept : (q : List ℕ) (n : ℕ) (vs : List ℕ) → 7 * n + length vs ≤ 56 → get_or (sets q (7 * n) vs) 56 0 ≡ get_or q 56 0
+pub count_kept : (q : List ℕ) (n : ℕ) (vs : List ℕ) → 8 * n + length vs ≤ 64 → get_or (sets q (8 * n) vs) 64 0 ≡ get_or q 64 0
 count_kept q n vs h =
-    sym (get_or-drop 56 (sets q (7 * n) vs) 0 0) ∙ ap (λ (l : List ℕ). get_or l 0 0) (drop_behind 56 q (7 * n) vs h) ∙ get_or-drop 56 q 0 0
+    sym (get_or-drop 64 (sets q (8 * n) vs) 0 0) ∙ ap (λ (l : List ℕ). get_or l 0 0) (drop_behind 64 q (8 * n) vs h) ∙ get_or-drop 64 q 0 0
 
 -- a run for K rates of d entries that passed
 pub record Room (i : Input) (K : ℕ) : Type 0 where

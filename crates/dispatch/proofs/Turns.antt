@@ -25,12 +25,12 @@ use Rattle.system.specs.System.{dim}
 use Rattle.system_validation.specs.Tests.{matrix_tests, dimension_tests}
 use Rattle.system_validation.proofs.Tests.{dimension_passed, matrix_passed}
 use Rattle.benettin.specs.Run.{RunState, Status, Course, as_float, lengths, answer, output_tests}
-use Rattle.benettin.specs.Estimate.{limit, dynamics, setting_tests}
+use Rattle.benettin.specs.Estimate.{limit, dynamics, config_tests}
 use Rattle.benettin.specs.Outputs.{Estimated, flat_rows, observed, outputs_from}
 use Rattle.benettin.specs.declared.RefusedRun.{RefusedRun}
 use Rattle.benettin.specs.declared.SpectrumEstimate.{SpectrumEstimate}
 use Rattle.benettin.proofs.Reading.{none_faint}
-use Rattle.benettin.proofs.RunTests.{settings_passed, count_passed, outputs_passed}
+use Rattle.benettin.proofs.RunTests.{config_passed, count_passed, outputs_passed}
 use Rattle.totals.specs.Progress.{held, run_state, status}
 use Rattle.totals.specs.Ending.{Bounded, Ends, Ended}
 use Rattle.totals.specs.declared.Progress.{Progress}
@@ -127,15 +127,15 @@ module _ {j : ℕ} {M : Memory} (A : InFront j M) where
     parts = subst (λ (t : Settings). Parts j t M.runs) (sym e) own_parts
 
     abbrev Limited : Type 0
-    Limited = (s.config.steps_per_window ≤ limit) × (s.config.windows ≤ limit) × (s.config.transient_windows ≤ limit) × (0 < dim s.system) × (dim s.system ≤ 16) × (s.config.top_k ≤ 16)
+    Limited = (s.config.steps_per_window ≤ limit) × (s.config.windows ≤ limit) × (s.config.transient_windows ≤ limit) × (0 < dim s.system) × (dim s.system ≤ 16) × (s.config.top_k ≤ 16) × (s.config.steps_per_transient_window ≤ limit)
 
     pub limited : Limited
     limited =
-        let a = both_passed (setting_tests s.config.top_k s.config.step_size s.config.steps_per_window s.config.windows s.config.windows s.config.transient_windows) _ parts.passed in
+        let a = both_passed (config_tests s.config.windows s.config) _ parts.passed in
         let b = both_passed (dimension_tests s.system) _ a.1 in
-        let t = settings_passed s.config.top_k s.config.step_size s.config.steps_per_window s.config.windows s.config.windows s.config.transient_windows a.0 in
+        let t = config_passed s.config.windows s.config a.0 in
         let d = dimension_passed s.system b.0 in
-        (t.4, t.5, t.6, d.0, d.1, omega (arith, count_passed s.config.top_k (dim s.system) b.1, d.1))
+        (t.4, t.5, t.6, d.0, d.1, omega (arith, count_passed s.config.top_k (dim s.system) b.1, d.1), t.7)
 
     -- it is taken up as one of d entries
     pub taken : {d : ℕ} (ns : List Float) {x n F : List Float} {g C : List ℕ} → M.runs ≡ Slots.memory F C → length F ≡ 2568 → length C ≡ 152 → d ≡ dim s.system
@@ -179,9 +179,9 @@ module _ {j : ℕ} {M : Memory} (A : InFront j M) where
         turns_in xl T =
             let p = parts in
             let l = limited in
-            let b = both_passed (setting_tests s.config.top_k s.config.step_size s.config.steps_per_window s.config.windows s.config.windows s.config.transient_windows) _ p.passed in
+            let b = both_passed (config_tests s.config.windows s.config) _ p.passed in
             let d = both_passed (dimension_tests s.system) _ b.1 in
-            let t = settings_passed s.config.top_k s.config.step_size s.config.steps_per_window s.config.windows s.config.windows s.config.transient_windows b.0 in
+            let t = config_passed s.config.windows s.config b.0 in
             let y = dimension_passed s.system d.0 in
             let u = both_passed (matrix_tests s.system a) _ f in
             let o = outputs_passed s.config.top_k (dim s.system) s.config.windows (lengths (length rows) (length es) (length fs)) u.1 in
@@ -194,6 +194,7 @@ module _ {j : ℕ} {M : Memory} (A : InFront j M) where
               passed =
                   record { dimension_above = y.0; dimension_within = y.1; cells = y.2; matrix = matrix_passed s.system a u.0; state = xl; count = l.5; step_size = t.1 };
               steps = l.0;
+              warm_up_steps = l.6;
               left = p.left;
               windows = l.1;
               warmed = p.warmed;
@@ -216,6 +217,7 @@ module _ {j : ℕ} {s : Settings} {a x₀ ns₀ rows es fs F f : List Float} {g 
         slot = R.slot;
         passed = R.passed;
         steps = R.steps;
+        warm_up_steps = R.warm_up_steps;
         bounded = (R.taken_up p P).bounded;
         left = let w : p.windows ≡ windows_at j (Slots.memory F C) = ap (λ (q : Progress). q.windows) P in omega (arith, w, R.left);
         windows = R.windows;

@@ -6,6 +6,7 @@ use mathlib.Core.Path.{◌≡◌, refl, sym, ap, ◌∙◌}
 use mathlib.Core.Bool.{Bool, true, false}
 use mathlib.Core.List.{List}
 use borrow.Rule.Slice.PartMut.{put_mid}
+use lib.Dec.{ltb}
 use lib.ListN.{length, take, drop}
 use lib.Seq.{sets}
 use lib.Ieee.{Float}
@@ -29,7 +30,7 @@ use Rattle.course.proofs.Loops.{one_more}
 use Rattle.store.proofs.Laid.{few_entries}
 use Rattle.turns.specs.Turn.{Job, warming, window_by, place}
 use Rattle.schedule.specs.declared.Settings.{Settings}
-use Rattle.dispatch.specs.Turns.{job_in, MakesWindow, WindowMade}
+use Rattle.dispatch.specs.Turns.{job_in, steps_by, next_steps, MakesWindow, WindowMade}
 
 module _ {j : ℕ} {s : Settings} {m x rows : List Float} {p : Progress} (W : MakesWindow j s m x rows p) where
   abbrev k : ℕ
@@ -49,6 +50,14 @@ module _ {j : ℕ} {s : Settings} {m x rows : List Float} {p : Progress} (W : Ma
 
   pub entries : k * d ≤ 256
   entries = few_entries k d W.passed.count W.passed.dimension_within
+
+  -- the steps of the next window
+  steps_few : (b : Bool) → steps_by b s.config ≤ limit
+  steps_few true = W.warm_up_steps
+  steps_few false = W.steps
+
+  pub next_few : next_steps s ≤ limit
+  next_few = steps_few (ltb s.warmed s.config.transient_windows)
 
   -- the row of the next window
   pub row_room : p.windows * (1 + 2 * k) + (1 + 2 * k) ≤ length rows
@@ -73,7 +82,7 @@ module _ {j : ℕ} {s : Settings} {m x rows : List Float} {p : Progress} (W : Ma
       J = job_in j s F x ns p
 
       module _ {T T' F' x' ns' : List Float} {r : Result Progress RefusedRun} (l : length F ≡ 2568) (lt : T ≡ part (321 * j + 16) (k * d) F) (kept : length T' ≡ length T)
-          (put : F' ≡ put_mid (321 * j + 16) (321 * j + 16 + k * length x - (321 * j + 16)) F T') (X : Windowed s.system m s.config (held x T ns p) x' T' ns' r) where
+          (put : F' ≡ put_mid (321 * j + 16) (321 * j + 16 + k * length x - (321 * j + 16)) F T') (X : Windowed s.system m s.config (next_steps s) (held x T ns p) x' T' ns' r) where
         many : length T' ≡ k * d
         many = kept ∙ ap length lt ∙ part_length _ _ _ (room l)
 
@@ -89,24 +98,24 @@ module _ {j : ℕ} {s : Settings} {m x rows : List Float} {p : Progress} (W : Ma
         pub moved : F' ≡ sets F (321 * j + 16) (part (321 * j + 16) (k * d) F')
         moved = put_sets ∙ ap (sets F (321 * j + 16)) (sym back)
 
-        pub windowed : status d k x' (part (321 * j + 16) (k * d) F') ns' r ≡ window M n J.now
+        pub windowed : status d k x' (part (321 * j + 16) (k * d) F') ns' r ≡ window M (next_steps s) J.now
         windowed =
             ap (λ (t : List Float). status d k x' t ns' r) back
             ∙ X.status n
-            ∙ ap (λ (t : List Float). window M n (run_state d k (held x t ns p))) lt
+            ∙ ap (λ (t : List Float). window M (next_steps s) (run_state d k (held x t ns p))) lt
 
       module _ {T T' F' x' ns' : List Float} {ε : RefusedRun} (l : length F ≡ 2568) (lt : T ≡ part (321 * j + 16) (k * d) F) (kept : length T' ≡ length T)
-          (put : F' ≡ put_mid (321 * j + 16) (321 * j + 16 + k * length x - (321 * j + 16)) F T') (X : Windowed s.system m s.config (held x T ns p) x' T' ns' (Err ε)) where
-        refused_end : (b : Bool) → recorded rows (refused_as ε) ≡ written rows (place J) (window_by b J m)
+          (put : F' ≡ put_mid (321 * j + 16) (321 * j + 16 + k * length x - (321 * j + 16)) F T') (X : Windowed s.system m s.config (next_steps s) (held x T ns p) x' T' ns' (Err ε)) where
+        refused_end : (b : Bool) → refused_as ε ≡ window M (steps_by b s.config) J.now → recorded rows (refused_as ε) ≡ written rows (place J) (window_by b J m)
         unfolding with_row measured flat_rows
-        refused_end true = ap (recorded rows) (windowed l lt kept put X)
-        refused_end false = ap (λ (o : Status). written rows (place J) (with_row M o (measured M n 0))) (windowed l lt kept put X)
+        refused_end true e = ap (recorded rows) e
+        refused_end false e = ap (λ (o : Status). written rows (place J) (with_row M o (measured M n 0))) e
 
         pub refused_made : WindowMade j s m F x ns rows p F' x' ns' rows (Err ε)
-        refused_made = record { floats = moved l lt kept put X; made = refused_end (warming J); bounded = tt }
+        refused_made = record { floats = moved l lt kept put X; made = refused_end (warming J) (windowed l lt kept put X); bounded = tt }
 
       module _ {T T' F' x' ns' : List Float} {r : Progress} (l : length F ≡ 2568) (lt : T ≡ part (321 * j + 16) (k * d) F) (kept : length T' ≡ length T)
-          (put : F' ≡ put_mid (321 * j + 16) (321 * j + 16 + k * length x - (321 * j + 16)) F T') (X : Windowed s.system m s.config (held x T ns p) x' T' ns' (Ok r)) where
+          (put : F' ≡ put_mid (321 * j + 16) (321 * j + 16 + k * length x - (321 * j + 16)) F T') (X : Windowed s.system m s.config (next_steps s) (held x T ns p) x' T' ns' (Ok r)) where
         few_made : Bounded k (limit + limit + 1) limit r
         few_made = X.bounded (limit + limit) limit W.bounded
 
@@ -126,7 +135,7 @@ module _ {j : ℕ} {s : Settings} {m x rows : List Float} {p : Progress} (W : Ma
 
           told : (old : List Float) → recorded new end ≡ with_row_of M old (window M n J.now)
           unfolding dynamics
-          told old = R.row_left M d x' (part (321 * j + 16) (k * d) F') old refl ∙ ap (with_row_of M old) (windowed l lt kept put X)
+          told old = R.row_left M d x' (part (321 * j + 16) (k * d) F') old refl ∙ ap (with_row_of M old) (windowed l lt kept put X ∙ rw e)
 
           ends : (o : Status) (b : ℕ) (rows' : List Float) → written rows' b (measured_from M n 0 o) ≡ recorded rows' o
           unfolding measured_from measured flat_rows

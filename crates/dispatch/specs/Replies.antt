@@ -24,7 +24,7 @@ abbrev pub drawn_in : Input → ℕ → HandedIn
 drawn_in i K = taken_at i K (drawn i K)
 
 pub record TakesIn (i : Input) (K : ℕ) (m : Memory) : Type 0 where
-  pub room : get_or m.queue 56 0 < 8
+  pub room : get_or m.queue 64 0 < 8
   pub passed : none ≡ first_failing (hand_in_tests i K)
 
 -- ---- a turn

@@ -1,5 +1,5 @@
 -- What the contracts of the parts of a turn say, by name. A reader may skip it. Definitions only.
-use Rattle.std.specs.Prelude.{ℕ, ◌+◌, ◌*◌, ◌≤◌, ◌<◌, ◌≡◌, true, ◌≢◌, List, ltb, length, replicate, set, Float, Result, IfOk}
+use Rattle.std.specs.Prelude.{ℕ, ◌+◌, ◌*◌, ◌≤◌, ◌<◌, ◌≡◌, Bool, true, false, ◌≢◌, List, ltb, length, replicate, set, Float, Result, IfOk}
 use Rattle.std.proofs.lemmas.List.Edits.{sets}
 use Rattle.floats.specs.Arithmetic.{zero⁺}
 use Rattle.floats.specs.Vector.{part}
@@ -7,6 +7,7 @@ use Rattle.system.specs.System.{dim}
 use Rattle.rk4.specs.Tests.{Passed}
 use Rattle.benettin.specs.Run.{RunState}
 use Rattle.benettin.specs.Estimate.{limit}
+use Rattle.benettin.specs.declared.BenettinConfig.{BenettinConfig}
 use Rattle.benettin.specs.declared.RefusedRun.{RefusedRun}
 use Rattle.totals.specs.Progress.{Held, held, run_state, status}
 use Rattle.totals.specs.Ending.{Bounded}
@@ -31,6 +32,7 @@ job_of s c =
       steps = s.config.steps_per_window;
       windows = s.config.windows;
       warm_up = s.config.transient_windows;
+      warm_up_steps = s.config.steps_per_transient_window;
       warmed = s.warmed;
       now = c;
     }
@@ -44,10 +46,19 @@ job_in j s F x ns p = job_of s (run_state (dim s.system) s.config.top_k (in_slot
 
 -- ---- one window
 
+-- how many steps it has, by whether it is one of the warm-up
+abbrev pub steps_by : Bool → BenettinConfig → ℕ
+steps_by true c = c.steps_per_transient_window
+steps_by false c = c.steps_per_window
+
+abbrev pub next_steps : Settings → ℕ
+next_steps s = steps_by (ltb s.warmed s.config.transient_windows) s.config
+
 pub record MakesWindow (j : ℕ) (s : Settings) (m x rows : List Float) (p : Progress) : Type 0 where
   pub slot : j < 8
   pub passed : Passed s.system m x s.config.top_k s.config.step_size
   pub steps : s.config.steps_per_window ≤ limit
+  pub warm_up_steps : s.config.steps_per_transient_window ≤ limit
   pub bounded : Bounded s.config.top_k (limit + limit) limit p
   pub left : p.windows < s.config.windows
   pub windows : s.config.windows ≤ limit
@@ -74,7 +85,7 @@ pub record PutsBack (j : ℕ) (s : Settings) (q : List ℕ) (x : List Float) (p 
 -- it is laid down in its slot beside its directions, and its name is the last of the queue
 pub record PutBack (j : ℕ) (s : Settings) (F : List Float) (C q : List ℕ) (x ns : List Float) (p : Progress) (F' : List Float) (C' q' : List ℕ) : Type 0 where
   pub runs : Slots.memory F' C' ≡ saved_beside j j x s.config.top_k ns p (Slots.memory F C)
-  pub queue_is : q' ≡ set (rotated q) (7 * j + 6) (warmed_by (ltb s.warmed s.config.transient_windows) s.warmed)
+  pub queue_is : q' ≡ set (rotated q) (8 * j + 7) (warmed_by (ltb s.warmed s.config.transient_windows) s.warmed)
 
 -- ---- the run is over
 
@@ -99,6 +110,7 @@ pub record TurnsIn (j : ℕ) (s : Settings) (m x ns : List Float) (g : List ℕ)
   pub settings_are : s ≡ settings_at j M.settings M.queue
   pub passed : Passed s.system m x s.config.top_k s.config.step_size
   pub steps : s.config.steps_per_window ≤ limit
+  pub warm_up_steps : s.config.steps_per_transient_window ≤ limit
   pub left : Slots.windows_at j M.runs < s.config.windows
   pub windows : s.config.windows ≤ limit
   pub warmed : s.warmed ≤ s.config.transient_windows

@@ -34,6 +34,18 @@ fn validate_turn(
     benettin::validation::validate_outputs(system, config.top_k, config.windows, lengths)
 }
 
+// How many steps the next window has: one of the warm-up has its own.
+fn steps_of_next(settings: Settings) -> u64
+    ensures { result ≡ Turns.next_steps settings }
+{
+    let config = settings.config;
+    if settings.warmed < config.transient_windows {
+        config.steps_per_transient_window
+    } else {
+        config.steps_per_window
+    }
+}
+
 // One window of a run, whose directions are moved where they stand in its slot: in the warm-up no row is written.
 fn make_window(
     floats: &mut [f64; 2568],
@@ -56,7 +68,10 @@ fn make_window(
     let e = a + k * state.len();
     let finished = progress.windows;
     let tangents = &mut floats[a..e];
-    progress::window(system, matrix, state, tangents, norms, config, progress)?;
+    let steps = steps_of_next(settings);
+    progress::window(
+        system, matrix, state, tangents, norms, config, steps, progress,
+    )?;
     if settings.warmed < config.transient_windows {
         return Ok(());
     }
@@ -79,7 +94,7 @@ fn warmed_after(warmed: u64, warm_up: u64) -> u64
 fn put_back(
     floats: &mut [f64; 2568],
     counts: &mut [u64; 152],
-    queue: &mut [u64; 65],
+    queue: &mut [u64; 73],
     slot: usize,
     settings: Settings,
     state: &[f64],
@@ -102,11 +117,11 @@ fn put_back(
         done,
     );
     schedule::requeue(queue);
-    queue[7 * slot + 6] = warmed_after(settings.warmed, config.transient_windows);
+    queue[8 * slot + 7] = warmed_after(settings.warmed, config.transient_windows);
 }
 
 // The run is over: its directions are cleared, and its name is free.
-fn leave(floats: &mut [f64; 2568], queue: &mut [u64; 65], slot: usize, count: usize)
+fn leave(floats: &mut [f64; 2568], queue: &mut [u64; 73], slot: usize, count: usize)
     requires { Turns.Leaves slot count queue.old }
     ensures { Turns.Left slot count floats.old queue.old floats.new queue.new }
 {
@@ -122,7 +137,7 @@ fn turn_in(
     floats: &mut [f64; 2568],
     counts: &mut [u64; 152],
     stored: &[f64; 32],
-    queue: &mut [u64; 65],
+    queue: &mut [u64; 73],
     slot: usize,
     settings: Settings,
     matrix: &[f64],
@@ -180,7 +195,7 @@ pub fn turn_of(
     floats: &mut [f64; 2568],
     counts: &mut [u64; 152],
     settings: &[f64; 32],
-    queue: &mut [u64; 65],
+    queue: &mut [u64; 73],
     slot: usize,
     matrix: &[f64],
     rows: &mut [f64],

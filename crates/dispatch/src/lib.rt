@@ -45,10 +45,10 @@ pub enum TurnTaken {
 
 // ---- an empty dispatcher
 
-pub fn empty(queue: &mut [u64; 65])
-    ensures { queue.new ≡ replicate 65 0 }
+pub fn empty(queue: &mut [u64; 73])
+    ensures { queue.new ≡ replicate 73 0 }
 {
-    *queue = [0; 65];
+    *queue = [0; 73];
 }
 
 // ---- handing in
@@ -58,7 +58,7 @@ fn take_in(
     floats: &mut [f64; 2568],
     counts: &mut [u64; 152],
     settings: &mut [f64; 32],
-    queue: &mut [u64; 65],
+    queue: &mut [u64; 73],
     system: System,
     time: f64,
     state: &[f64],
@@ -98,13 +98,13 @@ fn admit(
     floats: &mut [f64; 2568],
     counts: &mut [u64; 152],
     settings: &mut [f64; 32],
-    queue: &mut [u64; 65],
+    queue: &mut [u64; 73],
     system: System,
     time: f64,
     state: &[f64],
     config: BenettinConfig,
 ) -> Result<usize, LyapunovError>
-    requires { get_or queue.old 56 0 < 8 }
+    requires { get_or queue.old 64 0 < 8 }
     ensures { Served.served (Schedule.memory (Slots.memory floats.new counts.new) settings.new queue.new) (Replies.admission result)
         ≡ Served.received_in false (Estimate.input system [] time state.now config) config.top_k (Schedule.memory (Slots.memory floats.old counts.old) settings.old queue.old) }
 {
@@ -118,7 +118,7 @@ pub fn hand_in(
     floats: &mut [f64; 2568],
     counts: &mut [u64; 152],
     settings: &mut [f64; 32],
-    queue: &mut [u64; 65],
+    queue: &mut [u64; 73],
     system: System,
     time: f64,
     state: &[f64],
@@ -127,7 +127,7 @@ pub fn hand_in(
     ensures { Served.served (Schedule.memory (Slots.memory floats.new counts.new) settings.new queue.new) (Replies.admission result)
         ≡ Served.serve_in (Schedule.memory (Slots.memory floats.old counts.old) settings.old queue.old) (Dispatcher.hand_in (Estimate.input system [] time state.now config) config.top_k) }
 {
-    if queue[56] < 8 {
+    if queue[64] < 8 {
         admit(floats, counts, settings, queue, system, time, state, config)
     } else {
         Err(LyapunovError::DispatcherFull)
@@ -136,7 +136,7 @@ pub fn hand_in(
 
 // ---- whose turn it is
 
-pub fn next(queue: &[u64; 65]) -> Option<usize>
+pub fn next(queue: &[u64; 73]) -> Option<usize>
     ensures { index result ≡ Schedule.next_in queue.now }
 {
     schedule::next(queue)
@@ -149,7 +149,7 @@ pub fn turn(
     floats: &mut [f64; 2568],
     counts: &mut [u64; 152],
     settings: &[f64; 32],
-    queue: &mut [u64; 65],
+    queue: &mut [u64; 73],
     matrix: &[f64],
     rows: &mut [f64],
     exponents: &mut [f64],

@@ -42,7 +42,7 @@ Each m (e ∷ q) = Entered m e × Each m q
 
 record Holds (m : Memory) (q : List Entry) : Type 0 where
   sized : Sized m
-  count : get_or m.queue 56 0 ≡ length q
+  count : get_or m.queue 64 0 ≡ length q
   names : names_in m.queue ≡ names q
   queue : Queue q
   each : Each m q
@@ -93,7 +93,7 @@ module _ (m : Memory) (q : List Entry) (H : Holds m q) where
         let l = laid_length n j m U S h in
         let x : names_in L ≡ names q = tail_names m.queue L (laid_tail n j m U S h) ∙ H.names in
         let y : length (names_in L) ≡ length q = ap length x ∙ names_length q in
-        let c : get_or L 56 0 ≡ length (names_in L) = tail_count m.queue L (laid_tail n j m U S h) ∙ H.count ∙ sym y in
+        let c : get_or L 64 0 ≡ length (names_in L) = tail_count m.queue L (laid_tail n j m U S h) ∙ H.count ∙ sym y in
         record {
           sized = taken_sized n j m U S h;
           count = lengthened_count L l n c (omega (arith, y, few)) ∙ ap (λ (k : ℕ). k + 1) y ∙ sym (length-append q (entry n j ∷ []));
@@ -140,7 +140,7 @@ module _ (m : Memory) (e : Entry) (q : List Entry) (H : Holds m (e ∷ q)) where
   h : n < 8
   h = H.queue.small.0
 
-  c : get_or m.queue 56 0 ≡ suc (length (names q))
+  c : get_or m.queue 64 0 ≡ suc (length (names q))
   c = H.count ∙ ap suc (sym (names_length q))
 
   few : suc (length (names q)) ≤ 8

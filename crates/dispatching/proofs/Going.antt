@@ -43,6 +43,7 @@ pub record Under (j : Job) : Type 0 where
 
 record Limits (j : Job) : Type 0 where
   steps : j.steps ≤ limit
+  warm_up_steps : j.warm_up_steps ≤ limit
   windows : j.windows ≤ limit
   warm_up : j.warm_up ≤ limit
   entries : dim j.system ≤ 16
@@ -50,12 +51,12 @@ record Limits (j : Job) : Type 0 where
 
 limits : (j : Job) → Under j → Limits j
 limits j U =
-    let a = both_passed (setting_tests j.rates j.step_size j.steps j.windows j.windows j.warm_up) _ U.passed in
+    let a = both_passed (setting_tests j.rates j.step_size j.steps j.windows j.windows j.warm_up j.warm_up_steps) _ U.passed in
     let b = both_passed (dimension_tests j.system) _ a.1 in
-    let s = settings_passed j.rates j.step_size j.steps j.windows j.windows j.warm_up a.0 in
+    let s = settings_passed j.rates j.step_size j.steps j.windows j.windows j.warm_up j.warm_up_steps a.0 in
     let d = dimension_passed j.system b.0 in
     let k = count_passed j.rates (dim j.system) b.1 in
-    record { steps = s.4; windows = s.5; warm_up = s.6; entries = d.1; few = omega (arith, k, d.1) }
+    record { steps = s.4; warm_up_steps = s.7; windows = s.5; warm_up = s.6; entries = d.1; few = omega (arith, k, d.1) }
 
 pub under_fits : (j : Job) → Under j → Fits (dim j.system) j.rates j.now.totals.finished j.now
 under_fits j U = let l = limits j U in record { entries = l.entries; few = l.few; has = U.has; sized = U.made.made.directions }
@@ -105,7 +106,7 @@ module _ (i : Input) (K : ℕ) where
     job_passed : (c : RunState) → none ≡ first_failing (job_tests (job i K c))
     job_passed c =
         let a = both_passed (set_up_tests i.windows i K) _ p in
-        let b = both_passed (setting_tests K i.step_size i.steps i.windows i.windows i.warm_up) _ a.0 in
+        let b = both_passed (setting_tests K i.step_size i.steps i.windows i.windows i.warm_up i.warm_up_steps) _ a.0 in
         let d = both_passed (time_tests i.time) _ b.1 in
         let k = both_passed (state_tests S i.state) _ a.1 in
         behind _ _ b.0 (behind (dimension_tests S) _ d.1 k.1)
@@ -143,8 +144,7 @@ module _ (i : Input) (K : ℕ) where
 
 -- the same run, elsewhere
 abbrev pub moved_to : Job → ℕ → RunState → Job
-moved_to j w c =
-    record { system = j.system; rates = j.rates; step_size = j.step_size; steps = j.steps; windows = j.windows; warm_up = j.warm_up; warmed = w; now = c }
+moved_to j w c = record j { warmed = w; now = c }
 
 -- where it is under way still, only where it stands has changed
 abbrev pub UnderTurned : Job → Turned → Type 0
@@ -164,12 +164,13 @@ module _ (j : Job) (m : List Float) (z : Slices) (U : Under j) where
   abbrev Next : ℕ → RunState → Type 0
   Next w = MadeLogs d j.rates (w * limit) w
 
-  next_has : Holds (HasLogs d j.rates done) done (window M j.steps j.now)
-  next_has = window_has M (dynamics_keeps j.system m j.step_size j.steps) d j.rates done j.steps j.now U.has.has
+  -- after a window of n steps
+  next_has : (n : ℕ) → Holds (HasLogs d j.rates done) done (window M n j.now)
+  next_has n = window_has M (dynamics_keeps j.system m j.step_size j.steps) d j.rates done n j.now U.has.has
 
-  next_made : Either (Next (suc (begun j))) Any (window M j.steps j.now)
+  next_made : (n : ℕ) → n ≤ limit → Either (Next (suc (begun j))) Any (window M n j.now)
   unfolding dynamics
-  next_made = window_made M (keeps j.system m j.step_size j.steps) j.rates j.steps (limits j U).steps (begun j) j.now U.made
+  next_made n few = window_made M (keeps j.system m j.step_size j.steps) j.rates n few (begun j) j.now U.made
 
   -- one window more, of either sort
   on_under : (b : Bool) (n : ℕ) (c : RunState) → HasLogs d j.rates n c → Next (suc (begun j)) c → warmed_by b j.warmed ≤ j.warm_up → suc (begun j) ≡ warmed_by b j.warmed + n
@@ -205,8 +206,8 @@ module _ (j : Job) (m : List Float) (z : Slices) (U : Under j) where
 
   by_warming : (b : Bool) → warming j ≡ b → UnderTurned j (turned_by (window_by b j m).end j m z (window_by b j m))
   unfolding measured
-  by_warming true f = warm_up_under (window M j.steps j.now) next_has next_made f
-  by_warming false f = measured_under (window M j.steps j.now) next_has next_made f
+  by_warming true f = let n = j.warm_up_steps in warm_up_under (window M n j.now) (next_has n) (next_made n (limits j U).warm_up_steps) f
+  by_warming false f = let n = j.steps in measured_under (window M n j.now) (next_has n) (next_made n (limits j U).steps) f
 
   pub turn_under : UnderTurned j (turn j m z)
   unfolding turn

@@ -42,7 +42,7 @@ turned_in (some n) a z m = given_in (first_failing (turn_tests (job_at n m) a z)
 
 unfoldable pub serve_in : Memory → Call → Served
 unfolding handed_in turn least_free first_failing sound_at taken_in put_back taken_out
-serve_in m (hand_in i K) = received_in (leb 8 (get_or m.queue 56 0)) i K m
+serve_in m (hand_in i K) = received_in (leb 8 (get_or m.queue 64 0)) i K m
 serve_in m (take_turn a z) = turned_in (front m) a z m
 
 -- ---- a list of calls

@@ -2,7 +2,7 @@
 use Rattle.std.specs.Prelude.{ℕ, Result, Ok, Err}
 use Rattle.std.proofs.Math.Option.{Option, none, some}
 use Rattle.error.specs.declared.LyapunovError.{LyapunovError}
-use Rattle.error.specs.declared.LyapunovError.TheVariants.{ZeroTopK, InvalidStepSize, ZeroStepsPerWindow, ZeroWindows, CountAboveLimit, InvalidInitialTime, ZeroDimension, DimensionAboveLimit, MatrixMismatch, StateMismatch, NonFiniteInitialState, InvalidExponentCount, OutputTooShort, DegenerateTangent, InvalidWindowDuration, NonFiniteState, NonFiniteTangent, InvalidTime, TangentMismatch, NoExponents, TooManyExponents, NonFiniteExponent, IncompleteBytes, LogarithmDomain, TooFewCells, NoSuchNumber, StoreFull, DispatcherFull}
+use Rattle.error.specs.declared.LyapunovError.TheVariants.{ZeroTopK, InvalidStepSize, ZeroStepsPerWindow, ZeroWindows, CountAboveLimit, InvalidInitialTime, ZeroDimension, DimensionAboveLimit, MatrixMismatch, StateMismatch, NonFiniteInitialState, InvalidExponentCount, OutputTooShort, DegenerateTangent, InvalidWindowDuration, NonFiniteState, NonFiniteTangent, InvalidTime, TangentMismatch, NoExponents, TooManyExponents, NonFiniteExponent, IncompleteBytes, LogarithmDomain, TooFewCells, NoSuchNumber, StoreFull, DispatcherFull, ZeroStepsPerTransientWindow}
 use Rattle.error.specs.declared.Refusal.{Refusal}
 
 abbrev pub refuse : ℕ → ℕ → Refusal
@@ -38,6 +38,7 @@ refusal TooFewCells = refuse 25 0
 refusal NoSuchNumber = refuse 26 0
 refusal StoreFull = refuse 27 0
 refusal DispatcherFull = refuse 28 0
+refusal ZeroStepsPerTransientWindow = refuse 29 0
 
 -- what a result reports: that nothing is refused, or what is
 abbrev pub reported : {A : Type 0} → Result A LyapunovError → Option Refusal

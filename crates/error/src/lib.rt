@@ -41,6 +41,7 @@ pub enum LyapunovError {
     NoSuchNumber,
     StoreFull,
     DispatcherFull,
+    ZeroStepsPerTransientWindow,
 }
 
 // A refusal's number and its place. `place` is document 01's own term: the index, direction or output that the refusal
@@ -93,6 +94,7 @@ impl From<LyapunovError> for Refusal {
             LyapunovError::NoSuchNumber => Refusal::new(26, 0),
             LyapunovError::StoreFull => Refusal::new(27, 0),
             LyapunovError::DispatcherFull => Refusal::new(28, 0),
+            LyapunovError::ZeroStepsPerTransientWindow => Refusal::new(29, 0),
         }
     }
 }

@@ -24,6 +24,7 @@ lorenz =
       steps = 3;
       windows = 2;
       warm_up = 1;
+      warm_up_steps = 3;
       seed = default_seed;
       time = whole 5;
       state = whole 1 ∷ whole 2 ∷ whole 4 ∷ [];

@@ -196,7 +196,7 @@ pub fn estimate_largest(
     exponents: &mut [f64],
     final_state: &mut [f64],
 ) -> Result<SpectrumEstimate, RefusedRun>
-    ensures { Outputs.Meets (Estimate.input system matrix.now zero⁺ state.now (Estimate.settings 1 step_size steps_per_window windows 0 Estimate.default_seed)) 1
+    ensures { Outputs.Meets (Estimate.input system matrix.now zero⁺ state.now (Estimate.settings 1 step_size steps_per_window windows 0 steps_per_window Estimate.default_seed)) 1
         (Outputs.call rows.old exponents.old final_state.old (Outputs.observed result rows.new exponents.new final_state.new)) }
 {
     // Not `BenettinConfig::new`, which makes tests that the run makes too.
@@ -206,6 +206,7 @@ pub fn estimate_largest(
         steps_per_window,
         windows,
         transient_windows: 0,
+        steps_per_transient_window: steps_per_window,
         seed: benettin::DEFAULT_SEED,
     };
     estimate_spectrum(system, matrix, state, config, rows, exponents, final_state)

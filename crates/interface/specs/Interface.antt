@@ -46,7 +46,7 @@ pub record DiagnosticReturns (number place : ℕ) (old out : Float) (a : Answer 
   pub refusal_is : Refuses number place (refusal_in a)
   pub value_is : out ≡ value_or old a
 
--- what the first failing test of 1 to 12 and 25 refuses of a run for K rates
+-- what the first failing test of 1 to 12, 25 and 29 refuses of a run for K rates
 abbrev pub input_refusal : Input → ℕ → Option Refusal
 input_refusal i K = first_failing (input_tests (problem i) K)
 

@@ -12,6 +12,7 @@ ghost use Rattle.benettin.specs.Outputs.{observed};
 ghost use Rattle.turns.specs.Turn.{Slices};
 ghost use Rattle.dispatch.specs.Replies.{reply, Unspent};
 ghost use Rattle.interface.specs.Interface as Interface;
+ghost use Rattle.interface.specs.Options as Options;
 
 use benettin::{RefusedRun, SpectrumEstimate};
 use dispatch::TurnTaken;
@@ -30,6 +31,17 @@ pub fn report<T: Drop>(answer: Result<T, LyapunovError>, place: &mut u64) -> u64
     };
     *place = refusal.place as u64;
     refusal.number
+}
+
+// The steps of a warm-up window, by the options and by the steps of a measured one.
+pub fn transient_steps(steps: u64, options: &[u64]) -> u64
+    ensures { result ≡ Options.transient_steps steps options.now }
+{
+    if options.is_empty() {
+        steps
+    } else {
+        options[0]
+    }
 }
 
 // The counts of a run, one after the other, as C's array has them.

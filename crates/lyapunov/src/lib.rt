@@ -6,9 +6,13 @@
 // call from C is a call of the library's own function, and that its first rates hold still. specs/Marked.antt is document 01's
 // table of marked examples.
 //
+// with_options.rt has the functions that take options behind the settings; the others of a run are those without options.
 // C hands over a system by its kind, a refusal by its number and its place, and lends each slice by itself. So parameters stand
 // side by side here, and functions of one shape stay apart: each is an exported name.
 #![tactic(auto)]
+
+mod handed;
+pub mod with_options;
 
 ghost use Rattle.std.specs.Prelude.{◌≡◌, [], replicate};
 ghost use Rattle.sqrt.specs.SquareRoot.{root};
@@ -30,10 +34,8 @@ ghost use Rattle.dispatching.specs.Served.{serve_in};
 ghost use Rattle.interface.specs.Interface as Interface;
 ghost use Rattle.system_numbers.specs.Numbers as Numbers;
 
-use benettin::{BenettinConfig, validation};
+use benettin::BenettinConfig;
 use error::Refusal;
-use system::System;
-use system_numbers::Numbered;
 
 // The square root.
 #[unsafe(no_mangle)]
@@ -114,13 +116,7 @@ pub extern "C" fn lyapunov_step(
     ensures { Interface.StepReturns result place.new state.new tangents.new
         (stepped (Numbers.system kind p0 p1 p2 dimension) matrix.now time state.old tangents.old count step_size) }
 {
-    let system = System::from(Numbered {
-        kind,
-        p0,
-        p1,
-        p2,
-        dimension,
-    });
+    let system = handed::system(kind, p0, p1, p2, dimension);
     let outcome = rk4::step(system, matrix, time, state, tangents, count, step_size);
     interface::report(outcome, place)
 }
@@ -140,7 +136,7 @@ pub extern "C" fn lyapunov_build_config(
     interface::report(config, place)
 }
 
-// The number and the place of the first of the tests 1 to 12 and 25 that a run with this input fails. Nothing is run.
+// The number and the place of the first of the tests 1 to 12, 25 and 29 that a run with this input fails. Nothing is run.
 #[unsafe(no_mangle)]
 pub extern "C" fn lyapunov_validate(
     kind: u64,
@@ -159,26 +155,26 @@ pub extern "C" fn lyapunov_validate(
     place: &mut u64,
 ) -> u64
     ensures { Interface.Refuses result place.new (Interface.input_refusal
-        (input (Numbers.system kind p0 p1 p2 dimension) matrix.now time state.now (settings top_k step_size steps_per_window windows transient_windows default_seed))
+        (input (Numbers.system kind p0 p1 p2 dimension) matrix.now time state.now (settings top_k step_size steps_per_window windows transient_windows steps_per_window default_seed))
         top_k) }
 {
-    let system = System::from(Numbered {
+    with_options::lyapunov_validate_with_options(
         kind,
         p0,
         p1,
         p2,
         dimension,
-    });
-    let config = BenettinConfig {
+        matrix,
+        time,
+        state,
         top_k,
         step_size,
         steps_per_window,
         windows,
         transient_windows,
-        seed: benettin::DEFAULT_SEED,
-    };
-    let outcome = validation::validate_input(system, matrix, time, state, config, windows);
-    interface::report(outcome, place)
+        &[],
+        place,
+    )
 }
 
 // A run. `counts` takes the place, the finished measured windows, the steps and the sixteen faint counts; `times` the final
@@ -205,36 +201,32 @@ pub extern "C" fn lyapunov_estimate_spectrum_at(
     counts: &mut [u64; 19],
     times: &mut [f64; 2],
 ) -> u64
-    ensures { Interface.Meets (input (Numbers.system kind p0 p1 p2 dimension) matrix.now time state.now (settings top_k step_size steps_per_window windows transient_windows seed))
+    ensures { Interface.Meets (input (Numbers.system kind p0 p1 p2 dimension) matrix.now time state.now (settings top_k step_size steps_per_window windows transient_windows steps_per_window seed))
         top_k
         (Interface.call rows.old exponents.old final_state.old result counts.new times.new rows.new exponents.new final_state.new) }
 {
-    let system = System::from(Numbered {
+    with_options::lyapunov_estimate_spectrum_at_with_options(
         kind,
         p0,
         p1,
         p2,
         dimension,
-    });
-    let config = BenettinConfig {
+        matrix,
+        time,
+        state,
         top_k,
         step_size,
         steps_per_window,
         windows,
         transient_windows,
         seed,
-    };
-    let answer = estimator::estimate::estimate_spectrum_at(
-        system,
-        matrix,
-        time,
-        state,
-        config,
+        &[],
         rows,
         exponents,
         final_state,
-    );
-    interface::report_run(answer, counts, times)
+        counts,
+        times,
+    )
 }
 
 // A run from time zero.
@@ -259,35 +251,32 @@ pub extern "C" fn lyapunov_estimate_spectrum(
     counts: &mut [u64; 19],
     times: &mut [f64; 2],
 ) -> u64
-    ensures { Interface.Meets (input (Numbers.system kind p0 p1 p2 dimension) matrix.now zero⁺ state.now (settings top_k step_size steps_per_window windows transient_windows seed))
+    ensures { Interface.Meets (input (Numbers.system kind p0 p1 p2 dimension) matrix.now zero⁺ state.now (settings top_k step_size steps_per_window windows transient_windows steps_per_window seed))
         top_k
         (Interface.call rows.old exponents.old final_state.old result counts.new times.new rows.new exponents.new final_state.new) }
 {
-    let system = System::from(Numbered {
+    with_options::lyapunov_estimate_spectrum_at_with_options(
         kind,
         p0,
         p1,
         p2,
         dimension,
-    });
-    let config = BenettinConfig {
+        matrix,
+        0.0,
+        state,
         top_k,
         step_size,
         steps_per_window,
         windows,
         transient_windows,
         seed,
-    };
-    let answer = estimator::estimate::estimate_spectrum(
-        system,
-        matrix,
-        state,
-        config,
+        &[],
         rows,
         exponents,
         final_state,
-    );
-    interface::report_run(answer, counts, times)
+        counts,
+        times,
+    )
 }
 
 // A run for the largest exponent, from time zero, with no warm-up windows and the default seed.
@@ -309,17 +298,11 @@ pub extern "C" fn lyapunov_estimate_largest(
     counts: &mut [u64; 19],
     times: &mut [f64; 2],
 ) -> u64
-    ensures { Interface.Meets (input (Numbers.system kind p0 p1 p2 dimension) matrix.now zero⁺ state.now (settings 1 step_size steps_per_window windows 0 default_seed))
+    ensures { Interface.Meets (input (Numbers.system kind p0 p1 p2 dimension) matrix.now zero⁺ state.now (settings 1 step_size steps_per_window windows 0 steps_per_window default_seed))
         1
         (Interface.call rows.old exponents.old final_state.old result counts.new times.new rows.new exponents.new final_state.new) }
 {
-    let system = System::from(Numbered {
-        kind,
-        p0,
-        p1,
-        p2,
-        dimension,
-    });
+    let system = handed::system(kind, p0, p1, p2, dimension);
     let answer = estimator::estimate::estimate_largest(
         system,
         matrix,
@@ -371,38 +354,34 @@ pub extern "C" fn lyapunov_keep(
     ensures { Interface.KeeperReturns result counts.new times.new
         rows.new exponents.new final_state.new (memory store_floats.new store_counts.new)
         (serve (memory store_floats.old store_counts.old) (Calls.keep number
-        (Calls.brought (input (Numbers.system kind p0 p1 p2 dimension) matrix.now time state.now (settings top_k step_size steps_per_window windows transient_windows seed))
+        (Calls.brought (input (Numbers.system kind p0 p1 p2 dimension) matrix.now time state.now (settings top_k step_size steps_per_window windows transient_windows steps_per_window seed))
         top_k rows.old exponents.old final_state.old))) }
 {
-    let system = System::from(Numbered {
+    with_options::lyapunov_keep_with_options(
+        store_floats,
+        store_counts,
+        number,
         kind,
         p0,
         p1,
         p2,
         dimension,
-    });
-    let config = BenettinConfig {
+        matrix,
+        time,
+        state,
         top_k,
         step_size,
         steps_per_window,
         windows,
         transient_windows,
         seed,
-    };
-    let answer = keep::keep(
-        store_floats,
-        store_counts,
-        number,
-        system,
-        matrix,
-        time,
-        state,
-        config,
+        &[],
         rows,
         exponents,
         final_state,
-    );
-    interface::report_run(answer, counts, times)
+        counts,
+        times,
+    )
 }
 
 // Goes on from what is kept under a number. The store stays as it is.
@@ -434,38 +413,34 @@ pub extern "C" fn lyapunov_go_on(
     ensures { Interface.KeeperReturns result counts.new times.new
         rows.new exponents.new final_state.new (memory store_floats.now store_counts.now)
         (serve (memory store_floats.now store_counts.now) (Calls.go_on number
-        (Calls.brought (input (Numbers.system kind p0 p1 p2 dimension) matrix.now time state.now (settings top_k step_size steps_per_window windows transient_windows seed))
+        (Calls.brought (input (Numbers.system kind p0 p1 p2 dimension) matrix.now time state.now (settings top_k step_size steps_per_window windows transient_windows steps_per_window seed))
         top_k rows.old exponents.old final_state.old))) }
 {
-    let system = System::from(Numbered {
+    with_options::lyapunov_go_on_with_options(
+        store_floats,
+        store_counts,
+        number,
         kind,
         p0,
         p1,
         p2,
         dimension,
-    });
-    let config = BenettinConfig {
+        matrix,
+        time,
+        state,
         top_k,
         step_size,
         steps_per_window,
         windows,
         transient_windows,
         seed,
-    };
-    let answer = keep::go_on(
-        store_floats,
-        store_counts,
-        number,
-        system,
-        matrix,
-        time,
-        state,
-        config,
+        &[],
         rows,
         exponents,
         final_state,
-    );
-    interface::report_run(answer, counts, times)
+        counts,
+        times,
+    )
 }
 
 // Forgets what is kept under a number.
@@ -485,8 +460,8 @@ pub extern "C" fn lyapunov_forget(
 
 // A dispatcher without runs.
 #[unsafe(no_mangle)]
-pub extern "C" fn lyapunov_empty_dispatcher(queue: &mut [u64; 65])
-    ensures { queue.new ≡ replicate 65 0 }
+pub extern "C" fn lyapunov_empty_dispatcher(queue: &mut [u64; 73])
+    ensures { queue.new ≡ replicate 73 0 }
 {
     dispatch::empty(queue)
 }
@@ -497,7 +472,7 @@ pub extern "C" fn lyapunov_hand_in(
     run_floats: &mut [f64; 2568],
     run_counts: &mut [u64; 152],
     run_settings: &mut [f64; 32],
-    queue: &mut [u64; 65],
+    queue: &mut [u64; 73],
     kind: u64,
     p0: f64,
     p1: f64,
@@ -517,40 +492,36 @@ pub extern "C" fn lyapunov_hand_in(
     ensures { Interface.HandInReturns result name.new place.new
         (Schedule.memory (memory run_floats.new run_counts.new) run_settings.new queue.new)
         (serve_in (Schedule.memory (memory run_floats.old run_counts.old) run_settings.old queue.old) (Dispatcher.hand_in
-        (input (Numbers.system kind p0 p1 p2 dimension) [] time state.now (settings top_k step_size steps_per_window windows transient_windows seed))
+        (input (Numbers.system kind p0 p1 p2 dimension) [] time state.now (settings top_k step_size steps_per_window windows transient_windows steps_per_window seed))
         top_k)) }
 {
-    let system = System::from(Numbered {
+    with_options::lyapunov_hand_in_with_options(
+        run_floats,
+        run_counts,
+        run_settings,
+        queue,
         kind,
         p0,
         p1,
         p2,
         dimension,
-    });
-    let config = BenettinConfig {
+        time,
+        state,
         top_k,
         step_size,
         steps_per_window,
         windows,
         transient_windows,
         seed,
-    };
-    let answer = dispatch::hand_in(
-        run_floats,
-        run_counts,
-        run_settings,
-        queue,
-        system,
-        time,
-        state,
-        config,
-    );
-    interface::report_admission(answer, name, place)
+        &[],
+        name,
+        place,
+    )
 }
 
 // The name of the run whose turn is next, or 8.
 #[unsafe(no_mangle)]
-pub extern "C" fn lyapunov_next(queue: &[u64; 65]) -> u64
+pub extern "C" fn lyapunov_next(queue: &[u64; 73]) -> u64
     ensures { result ≡ Interface.next_name (Schedule.next_in queue.now) }
 {
     interface::report_next(dispatch::next(queue))
@@ -563,7 +534,7 @@ pub extern "C" fn lyapunov_turn(
     run_floats: &mut [f64; 2568],
     run_counts: &mut [u64; 152],
     run_settings: &[f64; 32],
-    queue: &mut [u64; 65],
+    queue: &mut [u64; 73],
     matrix: &[f64],
     rows: &mut [f64],
     exponents: &mut [f64],

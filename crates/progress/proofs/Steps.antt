@@ -79,37 +79,37 @@ module _ {S : System} {m x : List Float} {k : ℕ} {h : Float} (D : ℕ) (time :
 
 -- ---- the loop
 
--- when i steps are made: those from here on are all of them from the start
-pub record Stepping (S : System) (m : List Float) (c : BenettinConfig) (time₀ : Float) (x₀ t₀ : List Float) (i : ℕ) (time : Float) (x t : List Float) : Type 0 where
+-- when i of n steps are made: those from here on are all of them from the start
+pub record Stepping (S : System) (m : List Float) (c : BenettinConfig) (n : ℕ) (time₀ : Float) (x₀ t₀ : List Float) (i : ℕ) (time : Float) (x t : List Float) : Type 0 where
   pub passed : Passed S m x c.top_k c.step_size
   pub tangents : length t ≡ c.top_k * dim S
   pub clock : finite time ≡ true
   pub rest : (D s : ℕ) (N : Norms) (T : Totals)
       → (let M = dynamics S m c.step_size D in
-      steps M (c.steps_per_window - i) (joined (motion (dim S) c.top_k x t time (s + i)) N T) ≡ steps M c.steps_per_window (joined (motion (dim S) c.top_k x₀ t₀ time₀ s) N T))
+      steps M (n - i) (joined (motion (dim S) c.top_k x t time (s + i)) N T) ≡ steps M n (joined (motion (dim S) c.top_k x₀ t₀ time₀ s) N T))
 
-module _ {S : System} {m : List Float} {c : BenettinConfig} {time₀ : Float} {x₀ t₀ : List Float} {i : ℕ} {time : Float} {x t : List Float} (I : Stepping S m c time₀ x₀ t₀ i time x t) where
-  pub stepping_end : i ≡ c.steps_per_window → Advanced S m c time₀ x₀ t₀ x t (Ok time)
+module _ {S : System} {m : List Float} {c : BenettinConfig} {n : ℕ} {time₀ : Float} {x₀ t₀ : List Float} {i : ℕ} {time : Float} {x t : List Float} (I : Stepping S m c n time₀ x₀ t₀ i time x t) where
+  pub stepping_end : i ≡ n → Advanced S m c n time₀ x₀ t₀ x t (Ok time)
   unfolding steps
-  stepping_end g = record { status = λ D s N T. let z : c.steps_per_window - i ≡ 0 = omega arith in sym (rw (z, g)) ∙ I.rest D s N T; clock = I.clock; few = tt }
+  stepping_end g = record { status = λ D s N T. let z : n - i ≡ 0 = omega arith in sym (rw (z, g)) ∙ I.rest D s N T; clock = I.clock; few = tt }
 
-  module _ (x' t' : List Float) (g : i < c.steps_per_window) where
+  module _ (x' t' : List Float) (g : i < n) where
     first : (D s : ℕ) (N : Norms) (T : Totals) (o : Status)
         → (let M = dynamics S m c.step_size D in
-        step M (joined (motion (dim S) c.top_k x t time (s + i)) N T) ≡ o → (o then steps M (c.steps_per_window - (i + 1))) ≡ steps M c.steps_per_window (joined (motion (dim S) c.top_k x₀ t₀ time₀ s) N T))
+        step M (joined (motion (dim S) c.top_k x t time (s + i)) N T) ≡ o → (o then steps M (n - (i + 1))) ≡ steps M n (joined (motion (dim S) c.top_k x₀ t₀ time₀ s) N T))
     unfolding steps
-    first D s N T o f = let z : c.steps_per_window - i ≡ suc (c.steps_per_window - (i + 1)) = omega arith in sym (rw (z, f)) ∙ I.rest D s N T
+    first D s N T o f = let z : n - i ≡ suc (n - (i + 1)) = omega arith in sym (rw (z, f)) ∙ I.rest D s N T
 
-    pub stepping_refused : {ε : LyapunovError} → observed (Err ε) x' t' ≡ advanced S m x t c.top_k c.step_size → Advanced S m c time₀ x₀ t₀ x' t' (Err (record { error = ε; made = i }))
+    pub stepping_refused : {ε : LyapunovError} → observed (Err ε) x' t' ≡ advanced S m x t c.top_k c.step_size → Advanced S m c n time₀ x₀ t₀ x' t' (Err (record { error = ε; made = i }))
     unfolding ◌then◌
     stepping_refused {ε} e = record { status = λ D s N T. first D s N T _ (step_refused D time t I.passed I.tangents x' t' (s + i) N T ε e); clock = tt; few = omega arith }
 
     module _ (e : observed (Ok tt) x' t' ≡ advanced S m x t c.top_k c.step_size) where
-      pub stepping_late : finite (time ⊕ c.step_size) ≡ false → Advanced S m c time₀ x₀ t₀ x' t' (Err (record { error = InvalidTime; made = i }))
+      pub stepping_late : finite (time ⊕ c.step_size) ≡ false → Advanced S m c n time₀ x₀ t₀ x' t' (Err (record { error = InvalidTime; made = i }))
       unfolding ◌then◌
       stepping_late b = record { status = λ D s N T. first D s N T _ (step_late D time t I.passed I.tangents x' t' (s + i) N T e b); clock = tt; few = omega arith }
 
-      pub stepping_on : length x' ≡ length x → length t' ≡ length t → finite (time ⊕ c.step_size) ≡ true → Stepping S m c time₀ x₀ t₀ (i + 1) (time ⊕ c.step_size) x' t'
+      pub stepping_on : length x' ≡ length x → length t' ≡ length t → finite (time ⊕ c.step_size) ≡ true → Stepping S m c n time₀ x₀ t₀ (i + 1) (time ⊕ c.step_size) x' t'
       unfolding ◌then◌
       stepping_on ex et b =
           record {

@@ -17,7 +17,7 @@ use Rattle.system.specs.declared.System.{System}
 use Rattle.gram_schmidt.specs.GramSchmidt.{euclidean, observed, orthonormalised}
 use Rattle.benettin.specs.Run as Run
 use Rattle.benettin.specs.Run.{Dynamics, RunState, ok, steps, count_faint, window, accumulate, as_float, ◌then◌}
-use Rattle.benettin.specs.Estimate.{dynamics}
+use Rattle.benettin.specs.Estimate.{dynamics, limit}
 use Rattle.benettin.specs.declared.BenettinConfig.{BenettinConfig}
 use Rattle.totals.specs.Progress.{Held, motion, norms_of, totals, joined, run_state, after_steps, with_faint, with_sums, counted, refused_run}
 use Rattle.totals.specs.Ending.{most}
@@ -36,18 +36,15 @@ module _ {S : System} {m : List Float} {c : BenettinConfig} {H : Held} (F : Fits
   abbrev k : ℕ
   k = c.top_k
 
-  abbrev n : ℕ
-  n = c.steps_per_window
-
   abbrev p : Progress
   p = H.progress
 
   -- the steps came to the state x' and the directions t
-  pub steps_refused : {x' t : List Float} {e : RefusedStep} → Advanced S m c p.time H.state H.tangents x' t (Err e) → Windowed S m c H x' t H.norms (Err (refused_run e.error p.windows (p.steps + e.made)))
+  pub steps_refused : {n : ℕ} {x' t : List Float} {e : RefusedStep} → Advanced S m c n p.time H.state H.tangents x' t (Err e) → Windowed S m c n H x' t H.norms (Err (refused_run e.error p.windows (p.steps + e.made)))
   unfolding window ◌then◌
   steps_refused A = record { status = λ D. rw (← A.status D p.steps (norms_of k H.norms) (totals k p)); bounded = λ a b x. tt }
 
-  module _ {x' t : List Float} {time : Float} (A : Advanced S m c p.time H.state H.tangents x' t (Ok time)) (l : length t ≡ length H.tangents) (lx : length x' ≡ length H.state) (z : length H.norms ≡ 32) (t' norms' : List Float) where
+  module _ {n : ℕ} {x' t : List Float} {time : Float} (A : Advanced S m c n p.time H.state H.tangents x' t (Ok time)) (few : n ≤ limit) (l : length t ≡ length H.tangents) (lx : length x' ≡ length H.state) (z : length H.norms ≡ 32) (t' norms' : List Float) where
     many : length t ≡ k * dim S
     many = l ∙ F.tangents
 
@@ -60,7 +57,7 @@ module _ {S : System} {m : List Float} {c : BenettinConfig} {H : Held} (F : Fits
     entries : length x' ≡ dim S
     entries = lx ∙ F.passed.state
 
-    pub basis_collapsed : {ε : LyapunovError} → observed (Err ε) t' norms' ≡ orthonormalised euclidean t (length x') H.norms → Windowed S m c H x' t' norms' (Err (refused_run ε p.windows (p.steps + n)))
+    pub basis_collapsed : {ε : LyapunovError} → observed (Err ε) t' norms' ≡ orthonormalised euclidean t (length x') H.norms → Windowed S m c n H x' t' norms' (Err (refused_run ε p.windows (p.steps + n)))
     unfolding window ◌then◌ dynamics
     basis_collapsed {ε} E =
         record {
@@ -73,7 +70,7 @@ module _ {S : System} {m : List Float} {c : BenettinConfig} {H : Held} (F : Fits
         }
 
     pub window_done : observed (Ok tt) t' norms' ≡ orthonormalised euclidean t (length x') H.norms
-        → Windowed S m c H x' t' norms' (Ok (with_faint (after_steps p time n) (updated counted p.faint (take (k + k - k) (drop k norms')))))
+        → Windowed S m c n H x' t' norms' (Ok (with_faint (after_steps p time n) (updated counted p.faint (take (k + k - k) (drop k norms')))))
     unfolding window count_faint dynamics ◌then◌
     window_done E =
         let y₀ : k + k - k ≡ k = omega arith in
@@ -88,7 +85,7 @@ module _ {S : System} {m : List Float} {c : BenettinConfig} {H : Held} (F : Fits
                 Basis.basis_made (dim S) k t H.norms F.passed.dimension_above F.passed.count many z t' norms' e (M D) refl x' time (p.steps + n) (norms_of k H.norms) (totals k p),
                 y,
               );
-          bounded = λ a b x. bounded_counted x (take k (drop k norms')) A.clock F.steps (omega (arith, r));
+          bounded = λ a b x. bounded_counted x (take k (drop k norms')) A.clock few (omega (arith, r));
         })
 
 -- ---- a measured window
@@ -113,7 +110,7 @@ module _ {c : BenettinConfig} {norms : List Float} {q : Progress} (l : length no
       }
 
 pub measured_done : {S : System} {m : List Float} {c : BenettinConfig} {H : Held} {x t norms new : List Float} {q p : Progress} (old : List Float)
-    → Windowed S m c H x t norms (Ok q) → WindowRecorded c norms q p new → MeasuredWindow S m c H old x t norms new (Ok p)
+    → Windowed S m c c.steps_per_window H x t norms (Ok q) → WindowRecorded c norms q p new → MeasuredWindow S m c H old x t norms new (Ok p)
 unfolding dynamics
 measured_done {S} {m} {c} {x = x} {t = t} old W R =
     let M = dynamics S m c.step_size c.steps_per_window in

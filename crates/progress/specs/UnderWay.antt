@@ -35,17 +35,17 @@ pub record Begins (c : BenettinConfig) (time : Float) (x t : List Float) : Type 
 
 -- ---- what is told
 
--- how a run goes on after steps: the state x and the directions t of the system S, whatever a run holds beside them, and however many steps s it has made before
-abbrev pub status_after : System → BenettinConfig → List Float → List Float → ℕ → Norms → Totals → Result Float RefusedStep → Status
-status_after S c x t s N T (Ok time) = ok (joined (motion (dim S) c.top_k x t time (s + c.steps_per_window)) N T)
-status_after S c x t s N T (Err r) = let e = refusal r.error in refused (record { number = e.number; place = e.place; finished = T.finished; steps = s + r.made })
+-- how a run goes on after n steps: the state x and the directions t of the system S, whatever a run holds beside them, and however many steps s it has made before
+abbrev pub status_after : System → BenettinConfig → ℕ → List Float → List Float → ℕ → Norms → Totals → Result Float RefusedStep → Status
+status_after S c n x t s N T (Ok time) = ok (joined (motion (dim S) c.top_k x t time (s + n)) N T)
+status_after S c n x t s N T (Err r) = let e = refusal r.error in refused (record { number = e.number; place = e.place; finished = T.finished; steps = s + r.made })
 
--- the steps of a window from the state x, the directions t and the time: whatever a run holds beside them, and whatever the steps D of a measured window are
-pub record Advanced (S : System) (m : List Float) (c : BenettinConfig) (time : Float) (x t x' t' : List Float) (r : Result Float RefusedStep) : Type 0 where
+-- the n steps of a window from the state x, the directions t and the time: whatever a run holds beside them, and whatever the steps D of a measured window are
+pub record Advanced (S : System) (m : List Float) (c : BenettinConfig) (n : ℕ) (time : Float) (x t x' t' : List Float) (r : Result Float RefusedStep) : Type 0 where
   pub status : (D s : ℕ) (N : Norms) (T : Totals)
-      → status_after S c x' t' s N T r ≡ steps (dynamics S m c.step_size D) c.steps_per_window (joined (motion (dim S) c.top_k x t time s) N T)
+      → status_after S c n x' t' s N T r ≡ steps (dynamics S m c.step_size D) n (joined (motion (dim S) c.top_k x t time s) N T)
   pub clock : IfOk r (λ time'. finite time' ≡ true)
-  pub few : IfErr r (λ e. e.made ≤ c.steps_per_window)
+  pub few : IfErr r (λ e. e.made ≤ n)
 
 -- so many windows more at most, and so many measured ones of them
 abbrev pub Unmeasured : ℕ → ℕ → Progress → Result Progress RefusedRun → Type 0
@@ -54,9 +54,9 @@ Unmeasured k w p r = (made measured : ℕ) → Bounded k made measured p → IfO
 abbrev pub AllMeasured : ℕ → ℕ → Progress → Result Progress RefusedRun → Type 0
 AllMeasured k w p r = (made measured : ℕ) → Bounded k made measured p → IfOk r (λ p'. Bounded k (made + w) (measured + w) p')
 
--- one window, whatever the steps D of a measured one are
-pub record Windowed (S : System) (m : List Float) (c : BenettinConfig) (H : Held) (x t ns : List Float) (r : Result Progress RefusedRun) : Type 0 where
-  pub status : (D : ℕ) → status (dim S) c.top_k x t ns r ≡ window (dynamics S m c.step_size D) c.steps_per_window (run_state (dim S) c.top_k H)
+-- one window of n steps, whatever the steps D of a measured one are
+pub record Windowed (S : System) (m : List Float) (c : BenettinConfig) (n : ℕ) (H : Held) (x t ns : List Float) (r : Result Progress RefusedRun) : Type 0 where
+  pub status : (D : ℕ) → status (dim S) c.top_k x t ns r ≡ window (dynamics S m c.step_size D) n (run_state (dim S) c.top_k H)
   pub bounded : Unmeasured c.top_k 1 H.progress r
 
 -- the drawn basis orthonormalised and the duration tested, for every system of as many entries

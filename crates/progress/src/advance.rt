@@ -16,22 +16,23 @@ pub struct RefusedStep {
     pub made: u64,
 }
 
-// Makes the steps of a window from the time `start` on, up to the first that is refused. Answers the time after them.
+// Makes so many steps of a window from the time `start` on, up to the first that is refused. Answers the time after them.
 pub fn advance_steps(
     system: System,
     matrix: &[f64],
     state: &mut [f64],
     tangents: &mut [f64],
     config: BenettinConfig,
+    steps: u64,
     start: f64,
 ) -> Result<f64, RefusedStep>
     requires { Tests.Passed system matrix.now state.old config.top_k config.step_size × (length tangents.old ≡ config.top_k * dim system) × (finite start ≡ true) }
-    ensures { Under.Advanced system matrix.now config start state.old tangents.old state.new tangents.new result }
+    ensures { Under.Advanced system matrix.now config steps start state.old tangents.old state.new tangents.new result }
 {
     let k = config.top_k;
     let h = config.step_size;
     let mut time = start;
-    for made in 0..config.steps_per_window {
+    for made in 0..steps {
         if let Err(error) = rk4::passed::step(system, matrix, state, tangents, k, h) {
             return Err(RefusedStep { error, made });
         }

@@ -14,7 +14,8 @@ mod advance;
 mod draw;
 pub mod record;
 
-ghost use Rattle.std.specs.Prelude.{◌*◌, ◌+◌, ◌<◌, ◌≡◌, length};
+ghost use Rattle.std.specs.Prelude.{◌*◌, ◌+◌, ◌<◌, ◌≤◌, ◌≡◌, length};
+ghost use Rattle.benettin.specs.Estimate.{limit};
 ghost use Rattle.totals.specs.Progress.{held, carried};
 ghost use Rattle.totals.specs.Ending.{most};
 ghost use Rattle.progress.specs.UnderWay as Under;
@@ -43,7 +44,7 @@ pub fn begin(
     }
 }
 
-// One window, as a warm-up window is: its steps, the orthonormalisation, the faint counts.
+// One window of so many steps, as a warm-up window is: its steps, the orthonormalisation, the faint counts.
 pub fn window(
     system: System,
     matrix: &[f64],
@@ -51,10 +52,11 @@ pub fn window(
     tangents: &mut [f64],
     norms: &mut [f64; 32],
     config: BenettinConfig,
+    steps: u64,
     progress: &mut Progress,
 ) -> Result<(), RefusedRun>
-    requires { Under.Fits system matrix.now config most most (held state.old tangents.old norms.old progress.old) }
-    ensures { Under.Windowed system matrix.now config (held state.old tangents.old norms.old progress.old)
+    requires { Under.Fits system matrix.now config most most (held state.old tangents.old norms.old progress.old) × (steps ≤ limit) }
+    ensures { Under.Windowed system matrix.now config steps (held state.old tangents.old norms.old progress.old)
         state.new tangents.new norms.new (carried progress.new result) }
 {
     let time = match advance::advance_steps(
@@ -63,6 +65,7 @@ pub fn window(
         state,
         tangents,
         config,
+        steps,
         progress.time,
     ) {
         Ok(time) => time,
@@ -71,7 +74,7 @@ pub fn window(
             return Err(progress.refused(step.error));
         }
     };
-    progress.add_steps(time, config.steps_per_window);
+    progress.add_steps(time, steps);
     if let Err(error) = gram_schmidt::modified_gram_schmidt(tangents, state.len(), norms) {
         return Err(progress.refused(error));
     }
@@ -96,7 +99,10 @@ pub fn measured_window(
     ensures { Under.MeasuredWindow system matrix.now config (held state.old tangents.old norms.old progress.old) row.old
         state.new tangents.new norms.new row.new (carried progress.new result) }
 {
-    window(system, matrix, state, tangents, norms, config, progress)?;
+    let steps = config.steps_per_window;
+    window(
+        system, matrix, state, tangents, norms, config, steps, progress,
+    )?;
     record::record_window(norms, row, config, progress);
     Ok(())
 }

@@ -3,9 +3,9 @@ use Rattle.std.specs.Prelude.{ℕ, ◌≡◌, refl, List, [], ◌∷◌, ◌++�
 use Rattle.std.proofs.Math.Option.{none, some}
 use Rattle.schedule.specs.Schedule.{names_in, next_in, rotated, shortened, lengthened}
 
--- 56 counts of runs, then the length of the queue and eight numbers
+-- 64 counts of runs, then the length of the queue and eight numbers
 abbrev queue : ℕ → List ℕ → List ℕ
-queue length numbers = replicate 56 101 ++ (length ∷ numbers)
+queue length numbers = replicate 64 101 ++ (length ∷ numbers)
 
 abbrev three : List ℕ
 three = queue 3 (6 ∷ 2 ∷ 5 ∷ 17 ∷ 4 ∷ 19 ∷ 1 ∷ 23 ∷ [])
@@ -22,5 +22,5 @@ pub whose : (next_in three ≡ some 6) × (next_in many ≡ none) × (next_in (q
 whose = (refl, refl, refl)
 
 -- what stands behind the names stays
-pub changed : (drop 56 (rotated three) ≡ 3 ∷ 2 ∷ 5 ∷ 6 ∷ 17 ∷ 4 ∷ 19 ∷ 1 ∷ 23 ∷ []) × (drop 56 (shortened three) ≡ 2 ∷ 2 ∷ 5 ∷ 6 ∷ 17 ∷ 4 ∷ 19 ∷ 1 ∷ 23 ∷ []) × (drop 56 (lengthened 7 three) ≡ 4 ∷ 6 ∷ 2 ∷ 5 ∷ 7 ∷ 4 ∷ 19 ∷ 1 ∷ 23 ∷ [])
+pub changed : (drop 64 (rotated three) ≡ 3 ∷ 2 ∷ 5 ∷ 6 ∷ 17 ∷ 4 ∷ 19 ∷ 1 ∷ 23 ∷ []) × (drop 64 (shortened three) ≡ 2 ∷ 2 ∷ 5 ∷ 6 ∷ 17 ∷ 4 ∷ 19 ∷ 1 ∷ 23 ∷ []) × (drop 64 (lengthened 7 three) ≡ 4 ∷ 6 ∷ 2 ∷ 5 ∷ 7 ∷ 4 ∷ 19 ∷ 1 ∷ 23 ∷ [])
 changed = (refl, refl, refl)

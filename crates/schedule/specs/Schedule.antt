@@ -17,7 +17,7 @@ use Rattle.store.specs.Slots as Slots
 use Rattle.store.specs.Slots.{tag_at, stood_at, saved}
 use Rattle.turns.specs.Turn.{Job}
 
--- `runs` are the eight slots of a store, and the run named j stands in slot j. Of it there are 4 floats in `settings` from 4 * j on: the step size and the three parameters; and 7 counts in `queue` from 7 * j on: the kind, the dimension, the rates, the steps, the windows, the warm-up windows and how many of these are made. In `queue` the length of the queue stands at 56, and its names, from the front on, from 57 on.
+-- `runs` are the eight slots of a store, and the run named j stands in slot j. Of it there are 4 floats in `settings` from 4 * j on: the step size and the three parameters; and 8 counts in `queue` from 8 * j on: the kind, the dimension, the rates, the steps, the windows, the warm-up windows, the steps of one of these and how many of them are made. In `queue` the length of the queue stands at 64, and its names, from the front on, from 65 on.
 pub record Memory : Type 0 where
   pub runs : Slots.Memory
   pub settings : List Float
@@ -30,7 +30,7 @@ memory runs settings queue = record { runs = runs; settings = settings; queue = 
 
 -- the names from the front on, at most eight
 abbrev pub names_in : List ℕ → List ℕ
-names_in q = take (get_or q 56 0) (part 57 8 q)
+names_in q = take (get_or q 64 0) (part 65 8 q)
 
 -- the first of them, if it is a name
 abbrev pub first_name : List ℕ → Option ℕ
@@ -43,41 +43,42 @@ next_in q = first_name (names_in q)
 
 -- the one in front goes to the back
 abbrev pub rotated : List ℕ → List ℕ
-rotated q = let ns = names_in q in sets q 57 (drop 1 ns ++ take 1 ns)
+rotated q = let ns = names_in q in sets q 65 (drop 1 ns ++ take 1 ns)
 
 -- the one in front is gone
 abbrev pub shortened : List ℕ → List ℕ
-shortened q = set (rotated q) 56 (length (names_in q) - 1)
+shortened q = set (rotated q) 64 (length (names_in q) - 1)
 
 -- one more at the back
 abbrev pub lengthened : ℕ → List ℕ → List ℕ
-lengthened n q = let k = length (names_in q) in set (set q (57 + k) n) 56 (k + 1)
+lengthened n q = let k = length (names_in q) in set (set q (65 + k) n) 64 (k + 1)
 
 -- ---- what is set of a run
 
 abbrev pub system_at : ℕ → Memory → System
 system_at j m =
-    system (get_or m.queue (7 * j) 0) (get_or m.settings (4 * j + 1) nan) (get_or m.settings (4 * j + 2) nan) (get_or m.settings (4 * j + 3) nan) (get_or m.queue (7 * j + 1) 0)
+    system (get_or m.queue (8 * j) 0) (get_or m.settings (4 * j + 1) nan) (get_or m.settings (4 * j + 2) nan) (get_or m.settings (4 * j + 3) nan) (get_or m.queue (8 * j + 1) 0)
 
 -- the run named j, as memory has it
 abbrev pub job_at : ℕ → Memory → Job
 job_at j m =
     let S = system_at j m in
-    let K = get_or m.queue (7 * j + 2) 0 in
+    let K = get_or m.queue (8 * j + 2) 0 in
     record {
       system = S;
       rates = K;
       step_size = get_or m.settings (4 * j) nan;
-      steps = get_or m.queue (7 * j + 3) 0;
-      windows = get_or m.queue (7 * j + 4) 0;
-      warm_up = get_or m.queue (7 * j + 5) 0;
-      warmed = get_or m.queue (7 * j + 6) 0;
+      steps = get_or m.queue (8 * j + 3) 0;
+      windows = get_or m.queue (8 * j + 4) 0;
+      warm_up = get_or m.queue (8 * j + 5) 0;
+      warm_up_steps = get_or m.queue (8 * j + 6) 0;
+      warmed = get_or m.queue (8 * j + 7) 0;
       now = stood_at j (dim S) K m.runs;
     }
 
--- an unfinished run passes the tests 1 to 5, 7, 8, 25 and 12, has a measured window left, and no more warm-up windows made than there are
+-- an unfinished run passes the tests 1 to 5 with 29, 7, 8, 25 and 12, has a measured window left, and no more warm-up windows made than there are
 abbrev pub job_tests : Job → List Test
-job_tests j = setting_tests j.rates j.step_size j.steps j.windows j.windows j.warm_up ++ dimension_tests j.system ++ count_tests j.rates (dim j.system)
+job_tests j = setting_tests j.rates j.step_size j.steps j.windows j.windows j.warm_up j.warm_up_steps ++ dimension_tests j.system ++ count_tests j.rates (dim j.system)
 
 abbrev pub is_passed : Option Refusal → Bool
 is_passed none = true
@@ -105,7 +106,7 @@ abbrev pub laid_settings : ℕ → Job → List Float → List Float
 laid_settings j r f = let n = numbers r.system in sets f (4 * j) (r.step_size ∷ n.p0 ∷ n.p1 ∷ n.p2 ∷ [])
 
 abbrev pub laid_counts : ℕ → Job → List ℕ → List ℕ
-laid_counts j r q = let n = numbers r.system in sets q (7 * j) (n.kind ∷ n.dimension ∷ r.rates ∷ r.steps ∷ r.windows ∷ r.warm_up ∷ r.warmed ∷ [])
+laid_counts j r q = let n = numbers r.system in sets q (8 * j) (n.kind ∷ n.dimension ∷ r.rates ∷ r.steps ∷ r.windows ∷ r.warm_up ∷ r.warm_up_steps ∷ r.warmed ∷ [])
 
 -- a new run, named j, at the back of the queue
 unfoldable pub taken_in : ℕ → Job → Memory → Memory
@@ -115,7 +116,7 @@ taken_in j r m = memory (saved j j r.now m.runs) (laid_settings j r m.settings) 
 -- after a turn of the run in front, which is named j and goes on as r
 unfoldable pub put_back : ℕ → Job → Memory → Memory
 unfolding saved
-put_back j r m = memory (saved j j r.now m.runs) m.settings (set (rotated m.queue) (7 * j + 6) r.warmed)
+put_back j r m = memory (saved j j r.now m.runs) m.settings (set (rotated m.queue) (8 * j + 7) r.warmed)
 
 -- or is over: its directions are cleared
 unfoldable pub taken_out : ℕ → Job → Memory → Memory
@@ -124,4 +125,4 @@ taken_out j r m =
 
 -- an empty queue
 abbrev pub emptied : Memory → Memory
-emptied m = memory m.runs m.settings (replicate 65 0)
+emptied m = memory m.runs m.settings (replicate 73 0)

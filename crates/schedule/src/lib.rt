@@ -31,21 +31,21 @@ pub struct Settings {
 // ---- the queue
 
 // How many names are in the queue.
-pub fn queue_length(queue: &[u64; 65]) -> usize
+pub fn queue_length(queue: &[u64; 73]) -> usize
     ensures { result ≡ length (Schedule.names_in queue.now) }
 {
-    if queue[56] < 8 { queue[56] as usize } else { 8 }
+    if queue[64] < 8 { queue[64] as usize } else { 8 }
 }
 
 // Whose turn is next.
-pub fn next(queue: &[u64; 65]) -> Option<usize>
+pub fn next(queue: &[u64; 73]) -> Option<usize>
     ensures { index result ≡ Schedule.next_in queue.now }
 {
-    if queue[56] == 0 {
+    if queue[64] == 0 {
         return None;
     }
-    if queue[57] < 8 {
-        Some(queue[57] as usize)
+    if queue[65] < 8 {
+        Some(queue[65] as usize)
     } else {
         None
     }
@@ -71,55 +71,55 @@ fn least_name(names: &[u64]) -> usize
 }
 
 // The name of a new run.
-pub fn new_name(queue: &[u64; 65]) -> usize
+pub fn new_name(queue: &[u64; 73]) -> usize
     ensures { result ≡ least_free (Schedule.names_in queue.now) }
 {
-    let e = 57 + queue_length(queue);
-    least_name(&queue[57..e])
+    let e = 65 + queue_length(queue);
+    least_name(&queue[65..e])
 }
 
 // The run in front goes to the back.
-pub fn requeue(queue: &mut [u64; 65])
+pub fn requeue(queue: &mut [u64; 73])
     requires { 0 < length (Schedule.names_in queue.old) }
     ensures { queue.new ≡ Schedule.rotated queue.old }
 {
     // `rotate_left` would call the C library (docs/DECISIONS.md, 43).
     let n = queue_length(queue);
-    let e = 57 + n;
+    let e = 65 + n;
     let mut names = [0; 8];
-    floats::copy_pairs(&mut names, &queue[58..], n - 1);
-    names[n - 1] = queue[57];
-    floats::copy_pairs(&mut queue[57..e], &names, n);
+    floats::copy_pairs(&mut names, &queue[66..], n - 1);
+    names[n - 1] = queue[65];
+    floats::copy_pairs(&mut queue[65..e], &names, n);
 }
 
 // The run in front leaves.
-pub fn dequeue(queue: &mut [u64; 65])
+pub fn dequeue(queue: &mut [u64; 73])
     requires { 0 < length (Schedule.names_in queue.old) }
     ensures { queue.new ≡ Schedule.shortened queue.old }
 {
     let n = queue_length(queue);
     requeue(queue);
-    queue[56] = n as u64 - 1;
+    queue[64] = n as u64 - 1;
 }
 
 // A name goes to the back.
-pub fn enqueue(queue: &mut [u64; 65], name: usize)
+pub fn enqueue(queue: &mut [u64; 73], name: usize)
     requires { length (Schedule.names_in queue.old) < 8 }
     ensures { queue.new ≡ Schedule.lengthened name queue.old }
 {
     let n = queue_length(queue);
-    queue[57 + n] = name as u64;
-    queue[56] = n as u64 + 1;
+    queue[65 + n] = name as u64;
+    queue[64] = n as u64 + 1;
 }
 
 // ---- what is set of a run
 
-pub fn settings_at(settings: &[f64; 32], queue: &[u64; 65], slot: usize) -> Settings
+pub fn settings_at(settings: &[f64; 32], queue: &[u64; 73], slot: usize) -> Settings
     requires { slot < 8 }
     ensures { result ≡ Contracts.settings_at slot settings.now queue.now }
 {
     let a = 4 * slot;
-    let c = 7 * slot;
+    let c = 8 * slot;
     let system = System::from(Numbered {
         kind: queue[c],
         p0: settings[a + 1],
@@ -133,26 +133,28 @@ pub fn settings_at(settings: &[f64; 32], queue: &[u64; 65], slot: usize) -> Sett
         steps_per_window: queue[c + 3],
         windows: queue[c + 4],
         transient_windows: queue[c + 5],
+        steps_per_transient_window: queue[c + 6],
         seed: 0,
     };
     Settings {
         system,
         config,
-        warmed: queue[c + 6],
+        warmed: queue[c + 7],
     }
 }
 
 // Writes what is set of a new run.
 pub fn save_settings(
     settings: &mut [f64; 32],
-    queue: &mut [u64; 65],
+    queue: &mut [u64; 73],
     slot: usize,
     system: System,
     config: BenettinConfig,
 )
     requires { slot < 8 }
     ensures { (settings.new ≡ sets settings.old (4 * slot) (config.step_size ∷ (numbers system).p0 ∷ (numbers system).p1 ∷ (numbers system).p2 ∷ []))
-        × (queue.new ≡ sets queue.old (7 * slot) ((numbers system).kind ∷ (numbers system).dimension ∷ config.top_k ∷ config.steps_per_window ∷ config.windows ∷ config.transient_windows ∷ 0 ∷ [])) }
+        × (queue.new ≡ sets queue.old (8 * slot)
+        ((numbers system).kind ∷ (numbers system).dimension ∷ config.top_k ∷ config.steps_per_window ∷ config.windows ∷ config.transient_windows ∷ config.steps_per_transient_window ∷ 0 ∷ [])) }
 {
     let n = Numbered::from(system);
     let floats = [config.step_size, n.p0, n.p1, n.p2];
@@ -169,10 +171,11 @@ pub fn save_settings(
         steps,
         config.windows,
         config.transient_windows,
+        config.steps_per_transient_window,
         0,
     ];
-    let c = 7 * slot;
-    let d = c + 7;
+    let c = 8 * slot;
+    let d = c + 8;
     queue[c..d].copy_from_slice(&counts);
 }
 
@@ -199,7 +202,7 @@ fn is_sound(
     floats: &[f64; 2568],
     counts: &[u64; 152],
     settings: &[f64; 32],
-    queue: &[u64; 65],
+    queue: &[u64; 73],
     slot: usize,
 ) -> bool
     requires { slot < 8 }
@@ -217,7 +220,7 @@ pub fn front(
     floats: &[f64; 2568],
     counts: &[u64; 152],
     settings: &[f64; 32],
-    queue: &[u64; 65],
+    queue: &[u64; 73],
 ) -> Option<usize>
     ensures { index result ≡ Schedule.front (Schedule.memory (Slots.memory floats.now counts.now) settings.now queue.now) }
 {

@@ -83,10 +83,10 @@ module _ (i : Input) (K : ℕ) (m : List Float) (z : Slices) where
   -- from place p on, with so many windows of both sorts left
   abbrev from : RunState → ℕ → ℕ → ℕ → Estimated
   from c p w n =
-      let t = measured_from M i.steps n (warm_up M i.steps w c) in
+      let t = measured_from M i.steps n (warm_up M i.warm_up_steps w c) in
       outputs_from p i.windows z.rows z.exponents z.final_state (answer M i.windows K t.rows t.end)
 
-  started : (x : Status) → Either Fresh Nothing x → finish_handed K m z (taken_at i K x) ≡ out (measured_from M i.steps i.windows (x then warm_up M i.steps i.warm_up))
+  started : (x : Status) → Either Fresh Nothing x → finish_handed K m z (taken_at i K x) ≡ out (measured_from M i.steps i.windows (x then warm_up M i.warm_up_steps i.warm_up))
   unfolding finish ◌then◌ measured_from answer outputs_from flat_rows
   started (ok c) h =
       let p : c.totals.finished * (1 + 2 * K) ≡ 0 = ap (λ (f : ℕ). f * (1 + 2 * K)) h.0 ∙ omega arith in

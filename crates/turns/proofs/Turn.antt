@@ -21,7 +21,7 @@ use Rattle.turns.specs.Turn.{Job, Slices, slices, motion, warming, window_by, on
 
 -- what is left of a run, in one piece
 abbrev pub rest : Job → List Float → Course
-rest j m = measured_from (motion j m) j.steps (j.windows - j.now.totals.finished) (warm_up (motion j m) j.steps (j.warm_up - j.warmed) j.now)
+rest j m = measured_from (motion j m) j.steps (j.windows - j.now.totals.finished) (warm_up (motion j m) j.warm_up_steps (j.warm_up - j.warmed) j.now)
 
 -- what it comes to if it is alone from here on
 unfoldable pub finish : Job → List Float → Slices → Estimated
@@ -87,13 +87,13 @@ module _ (j : Job) (m : List Float) (z : Slices) (G : Going j) where
   abbrev pub Next : Status → Type 0
   Next = Holds (HasLogs d j.rates done) done
 
-  pub next : Next (window M s j.now)
-  next = window_has M (dynamics_keeps j.system m j.step_size s) d j.rates done s j.now G.has
+  pub next : (n : ℕ) → Next (window M n j.now)
+  next n = window_has M (dynamics_keeps j.system m j.step_size s) d j.rates done n j.now G.has
 
   -- ---- a warm-up window
 
   by_warm_up : (x : Status) → Next x → warming j ≡ true
-      → ended_by j m z (measured_from M s left (x then warm_up M s (j.warm_up - suc j.warmed))) ≡ finish_turned m (turned_by x j m z (record { rows = []; end = x }))
+      → ended_by j m z (measured_from M s left (x then warm_up M j.warm_up_steps (j.warm_up - suc j.warmed))) ≡ finish_turned m (turned_by x j m z (record { rows = []; end = x }))
   unfolding ◌then◌ finish flat_rows measured_from
   by_warm_up (ok c) h e =
       let f = h.has.finished in
@@ -152,11 +152,11 @@ module _ (j : Job) (m : List Float) (z : Slices) (G : Going j) where
   unfolding finish warm_up measured measured_from
   by_warming true e =
       let w : j.warm_up - j.warmed ≡ suc (j.warm_up - suc j.warmed) = omega (arith, ltb-true j.warmed j.warm_up e) in
-      rw w (by_warm_up (window M s j.now) next e)
+      rw w (by_warm_up (window M j.warm_up_steps j.now) (next j.warm_up_steps) e)
   by_warming false e =
       let w : j.warm_up - j.warmed ≡ 0 = omega (arith, ltb-false j.warmed j.warm_up e) in
       let n : left ≡ suc (left - 1) = omega (arith, G.windows) in
-      rw w (ap (λ (k : ℕ). ended_by j m z (measured M s k j.now)) n ∙ by_measured (window M s j.now) next e)
+      rw w (ap (λ (k : ℕ). ended_by j m z (measured M s k j.now)) n ∙ by_measured (window M s j.now) (next s) e)
 
   pub turn_law : finish j m z ≡ finish_turned m (turn j m z)
   unfolding turn
@@ -164,8 +164,8 @@ module _ (j : Job) (m : List Float) (z : Slices) (G : Going j) where
 
   going_by : (b : Bool) → GoingTurned (turned_by (window_by b j m).end j m z (window_by b j m))
   unfolding measured
-  going_by true = warm_up_going (window M s j.now) next
-  going_by false = measured_going (window M s j.now) next
+  going_by true = warm_up_going (window M j.warm_up_steps j.now) (next j.warm_up_steps)
+  going_by false = measured_going (window M s j.now) (next s)
 
   pub turn_going : GoingTurned (turn j m z)
   unfolding turn

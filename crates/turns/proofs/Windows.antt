@@ -53,8 +53,8 @@ module _ (j : Job) (m : List Float) (z : Slices) (G : Going j) where
 
   begun_warming : (b : Bool) → warming j ≡ b → BegunTurned j (turned_by (window_by b j m).end j m z (window_by b j m))
   unfolding measured
-  begun_warming true e = warm_up_begun (window (motion j m) j.steps j.now) (next j m z G) e
-  begun_warming false e = measured_begun (window (motion j m) j.steps j.now) (next j m z G) e
+  begun_warming true e = warm_up_begun (window (motion j m) j.warm_up_steps j.now) (next j m z G j.warm_up_steps) e
+  begun_warming false e = measured_begun (window (motion j m) j.steps j.now) (next j m z G j.steps) e
 
   turn_begun : BegunTurned j (turn j m z)
   unfolding turn

@@ -16,8 +16,7 @@ use Rattle.turns.specs.Dispatcher.{Call, hand_in, take_turn, Reply, named, rejec
 
 -- the same run with this matrix
 abbrev pub with_matrix : List Float → Input → Input
-with_matrix m i =
-    record { system = i.system; matrix = m; step_size = i.step_size; steps = i.steps; windows = i.windows; warm_up = i.warm_up; seed = i.seed; time = i.time; state = i.state }
+with_matrix m i = record i { matrix = m }
 
 -- slices that fit the run: neither 9 nor 13 refuses them
 abbrev pub Fits : Input → ℕ → List Float → Slices → Type 0

@@ -26,6 +26,7 @@ pub record Job : Type 0 where
   pub steps : ℕ
   pub windows : ℕ
   pub warm_up : ℕ
+  pub warm_up_steps : ℕ
   pub warmed : ℕ
   pub now : RunState
 
@@ -34,7 +35,18 @@ abbrev pub begun : Job → ℕ
 begun j = j.warmed + j.now.totals.finished
 
 abbrev pub job : Input → ℕ → RunState → Job
-job i K c = record { system = i.system; rates = K; step_size = i.step_size; steps = i.steps; windows = i.windows; warm_up = i.warm_up; warmed = 0; now = c }
+job i K c =
+    record {
+      system = i.system;
+      rates = K;
+      step_size = i.step_size;
+      steps = i.steps;
+      windows = i.windows;
+      warm_up = i.warm_up;
+      warm_up_steps = i.warm_up_steps;
+      warmed = 0;
+      now = c;
+    }
 
 pub data HandedIn : Type 0 where
   taken : Job → HandedIn
@@ -78,9 +90,9 @@ motion j m = dynamics j.system m j.step_size j.steps
 abbrev pub warming : Job → Bool
 warming j = ltb j.warmed j.warm_up
 
--- one window: a warm-up window has no row
+-- one window: a warm-up window has its own steps, and no row
 abbrev pub window_by : Bool → Job → List Float → Course
-window_by true j m = record { rows = []; end = window (motion j m) j.steps j.now }
+window_by true j m = record { rows = []; end = window (motion j m) j.warm_up_steps j.now }
 window_by false j m = measured (motion j m) j.steps 1 j.now
 
 -- after a window, where the run stands at c
@@ -89,17 +101,7 @@ warmed_by true n = suc n
 warmed_by false n = n
 
 abbrev pub onward : Job → RunState → Job
-onward j c =
-    record {
-      system = j.system;
-      rates = j.rates;
-      step_size = j.step_size;
-      steps = j.steps;
-      windows = j.windows;
-      warm_up = j.warm_up;
-      warmed = warmed_by (warming j) j.warmed;
-      now = c;
-    }
+onward j c = record j { warmed = warmed_by (warming j) j.warmed; now = c }
 
 -- the place of the next row
 abbrev pub place : Job → ℕ

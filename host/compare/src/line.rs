@@ -66,6 +66,12 @@ impl<'a> Fields<'a> {
         read_count(self.take(name)?)
     }
 
+    /// A count that may be left out.
+    pub fn given_count(&mut self, name: &str) -> Result<Option<u64>, String> {
+        let given = self.take(name).ok();
+        given.map(read_count).transpose()
+    }
+
     pub fn size(&mut self, name: &str) -> Result<usize, String> {
         Ok(self.count(name)? as usize)
     }
@@ -128,6 +134,15 @@ mod tests {
             assert_eq!(line.input.finish(), Ok(()));
             assert_eq!(line.answer.answer(&[]), Ok(Answer::default()));
         }
+    }
+
+    #[test]
+    fn a_count_may_be_left_out() {
+        let mut line = Line::read("run id=A warmup=2 -> num=0").unwrap();
+        assert_eq!(line.input.given_count("warmup"), Ok(Some(2)));
+        assert_eq!(line.input.given_count("warmup"), Ok(None));
+        let mut line = Line::read("run id=A warmup=-2 -> num=0").unwrap();
+        assert!(line.input.given_count("warmup").is_err());
     }
 
     #[test]

@@ -7,6 +7,8 @@ pub struct Random {
     state: u64,
     /// Which systems the inputs have.
     pub systems: Systems,
+    /// Whether warm-up windows have steps of their own now and then: document 02's request g.
+    pub warm_up_steps: bool,
 }
 
 impl Random {
@@ -15,12 +17,21 @@ impl Random {
         Self {
             state: seed.wrapping_mul(0x2545_f491_4f6c_dd1d) | 1,
             systems: Systems::All,
+            warm_up_steps: false,
         }
     }
 
     /// The same, for inputs with these systems.
     pub fn with(self, systems: Systems) -> Self {
         Self { systems, ..self }
+    }
+
+    /// The same, for inputs whose warm-up windows may have steps of their own.
+    pub fn with_warm_up_steps(self) -> Self {
+        Self {
+            warm_up_steps: true,
+            ..self
+        }
     }
 
     pub fn bits(&mut self) -> u64 {

@@ -2,19 +2,27 @@
 
 use std::process::Command;
 
-const OVER: [&str; 7] = [
+const OVER: [&str; 15] = [
     "steps over",
     "windows over",
-    "warm-up over",
     "steps and windows over",
+    "warm-up over",
     "steps and warm-up over",
     "windows and warm-up over",
+    "steps and windows and warm-up over",
+    "warm-up steps over",
+    "steps and warm-up steps over",
+    "windows and warm-up steps over",
+    "steps and windows and warm-up steps over",
+    "warm-up and warm-up steps over",
+    "steps and warm-up and warm-up steps over",
+    "windows and warm-up and warm-up steps over",
     "all counts over",
 ];
 
 fn compared(name: &str) -> String {
     let output = Command::new(env!("CARGO_BIN_EXE_compare"))
-        .args([name, "--count", "4000"])
+        .args([name, "--count", "9000"])
         .output()
         .expect("the program runs");
     let text = String::from_utf8_lossy(&output.stdout).into_owned();

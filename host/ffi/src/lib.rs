@@ -66,6 +66,24 @@ macro_rules! call {
     ($function:ident($($argument:tt)*)) => { call!(@ $function [] $($argument)*) };
 }
 
+/// Calls the function that takes options where `settings` has some, and else the one without. The
+/// arguments up to the settings, their fields, and the arguments behind them stand in brackets.
+macro_rules! with_settings {
+    ($without:ident or $with:ident, $settings:ident,
+        [$($before:tt)*] [$($fields:tt)*] [$($behind:tt)*]) => {
+        match $settings.options() {
+            [] => call!($without($($before)* fields $settings [$($fields)*], $($behind)*)),
+            options => call!($with(
+                $($before)* fields $settings [$($fields)*], read options, $($behind)*
+            )),
+        }
+    };
+    ($without:ident or $with:ident, $settings:ident, [$($before:tt)*] [$($behind:tt)*]) => {
+        with_settings!($without or $with, $settings, [$($before)*]
+            [top_k, step_size, steps_per_window, windows, transient_windows, seed] [$($behind)*])
+    };
+}
+
 /// What a number holds until the library writes it.
 pub const UNWRITTEN: u64 = u64::MAX;
 
@@ -140,7 +158,7 @@ pub const DISPATCHER_RUNS: usize = STORE_STATES;
 /// The length of the array with the settings of its runs.
 pub const DISPATCHER_SETTINGS: usize = 32;
 /// The length of its queue.
-pub const DISPATCHER_QUEUE: usize = 65;
+pub const DISPATCHER_QUEUE: usize = 73;
 
 /// The memory of a dispatcher. Its runs under way lie in arrays as those of a store. It may hold
 /// anything: every call ends, and touches nothing else.
@@ -245,7 +263,7 @@ pub fn build_config(settings: &Settings) -> Refusal {
     })
 }
 
-/// Tests 1 to 12 and 25 of a run: those that do not look at its outputs.
+/// Tests 1 to 12, 25 and 29 of a run: those that do not look at its outputs.
 pub fn validate<'a>(
     system: impl Into<Arguments<'a>>,
     time: f64,
@@ -254,11 +272,11 @@ pub fn validate<'a>(
 ) -> Refusal {
     let system = system.into();
     refusal(|place| {
-        call!(lyapunov_validate(
-            system system, value time, read state,
-            fields settings [top_k, step_size, steps_per_window, windows, transient_windows],
-            value place,
-        ))
+        with_settings!(
+            lyapunov_validate or lyapunov_validate_with_options, settings,
+            [system system, value time, read state,]
+            [top_k, step_size, steps_per_window, windows, transient_windows] [value place,]
+        )
     })
 }
 
@@ -271,18 +289,22 @@ pub fn estimate_spectrum_at<'a>(
     outputs: &mut Outputs,
 ) -> u64 {
     let system = system.into();
-    call!(lyapunov_estimate_spectrum_at(
-        system system, value time, read state, settings settings, outputs outputs,
-    ))
+    with_settings!(
+        lyapunov_estimate_spectrum_at or lyapunov_estimate_spectrum_at_with_options, settings,
+        [system system, value time, read state,] [outputs outputs,]
+    )
 }
 
-/// A run from time 0.
+/// A run from time 0. With options it is the run from a start time, which is 0.
 pub fn estimate_spectrum<'a>(
     system: impl Into<Arguments<'a>>,
     state: &[f64],
     settings: &Settings,
     outputs: &mut Outputs,
 ) -> u64 {
+    if !settings.options().is_empty() {
+        return estimate_spectrum_at(system, 0.0, state, settings, outputs);
+    }
     let system = system.into();
     call!(lyapunov_estimate_spectrum(
         system system, read state, settings settings, outputs outputs,
@@ -320,10 +342,12 @@ pub fn keep<'a>(
     outputs: &mut Outputs,
 ) -> u64 {
     let system = system.into();
-    call!(lyapunov_keep(
-        filled store.floats, filled store.counts, value number,
-        system system, value time, read state, settings settings, outputs outputs,
-    ))
+    with_settings!(
+        lyapunov_keep or lyapunov_keep_with_options, settings,
+        [filled store.floats, filled store.counts, value number,
+            system system, value time, read state,]
+        [outputs outputs,]
+    )
 }
 
 /// Goes on from what is kept under `number`, for the windows of `settings`.
@@ -337,10 +361,12 @@ pub fn go_on<'a>(
     outputs: &mut Outputs,
 ) -> u64 {
     let system = system.into();
-    call!(lyapunov_go_on(
-        seen store.floats, seen store.counts, value number,
-        system system, value time, read state, settings settings, outputs outputs,
-    ))
+    with_settings!(
+        lyapunov_go_on or lyapunov_go_on_with_options, settings,
+        [seen store.floats, seen store.counts, value number,
+            system system, value time, read state,]
+        [outputs outputs,]
+    )
 }
 
 /// Forgets what is kept under `number`; answers 0 or 26.
@@ -369,11 +395,13 @@ pub fn hand_in<'a>(
 ) -> Refusal {
     let system = system.into();
     refusal(|place| {
-        call!(lyapunov_hand_in(
-            filled dispatcher.runs.floats, filled dispatcher.runs.counts,
-            filled dispatcher.settings, filled dispatcher.queue,
-            numbers system, value time, read state, settings settings, value name, value place,
-        ))
+        with_settings!(
+            lyapunov_hand_in or lyapunov_hand_in_with_options, settings,
+            [filled dispatcher.runs.floats, filled dispatcher.runs.counts,
+                filled dispatcher.settings, filled dispatcher.queue,
+                numbers system, value time, read state,]
+            [value name, value place,]
+        )
     })
 }
 

@@ -24,7 +24,7 @@ macro_rules! refusals {
         }
 
         impl LyapunovError {
-            /// The number of the refusal, 1 to 28.
+            /// The number of the refusal, 1 to 29.
             #[must_use]
             pub const fn number(&self) -> u64 {
                 match self {
@@ -74,8 +74,8 @@ refusals! {
     /// 4: there are no measured windows.
     4 ZeroWindows => "there are no measured windows";
     /// 5: a count is above [`MAX_COUNT`](crate::MAX_COUNT); the first count that is, in the order
-    /// 0 `steps_per_window`, 1 `windows`, 2 `transient_windows`. A settings form can highlight that
-    /// field, which the text names too.
+    /// 0 `steps_per_window`, 1 `windows`, 2 `transient_windows`, 3 `steps_per_transient_window`. A
+    /// settings form can highlight that field, which the text names too.
     5 CountAboveLimit(place) =>
         format_args!("{} is above {}", count_name(place), crate::MAX_COUNT);
     /// 6: the start time, or the time of a step, is not finite.
@@ -133,6 +133,9 @@ refusals! {
     27 StoreFull => "eight other numbers are kept";
     /// 28: eight runs of the dispatcher are unfinished, on hand-in. It is tested before any setting.
     28 DispatcherFull => "eight runs are unfinished";
+    /// 29: a warm-up window has no steps, also where there are no warm-up windows. It is tested
+    /// straight after 4.
+    29 ZeroStepsPerTransientWindow => "a warm-up window has no steps";
 }
 
 /// What the library answers, as a `Result`: 0 is no refusal.
@@ -153,6 +156,7 @@ fn count_name(place: usize) -> &'static str {
         0 => "steps_per_window",
         1 => "windows",
         2 => "transient_windows",
+        3 => "steps_per_transient_window",
         _ => "a count",
     }
 }
@@ -174,7 +178,7 @@ mod tests {
 
     #[test]
     fn numbers_and_places_are_read_back() {
-        for number in 1..=28 {
+        for number in 1..=29 {
             let error = LyapunovError::from_number(number, 7).unwrap();
             assert_eq!(error.number(), number);
             let placed = [5, 11, 13, 14, 16, 17, 22].contains(&number);
@@ -182,12 +186,12 @@ mod tests {
             assert!(!error.to_string().is_empty());
         }
         assert_eq!(LyapunovError::from_number(0, 0), None);
-        assert_eq!(LyapunovError::from_number(29, 0), None);
+        assert_eq!(LyapunovError::from_number(30, 0), None);
     }
 
     #[test]
     fn a_count_is_named_as_its_field() {
-        let texts = [0, 1, 2, 3, usize::MAX].map(|place| {
+        let texts = [0, 1, 2, 3, 4, usize::MAX].map(|place| {
             let error = LyapunovError::CountAboveLimit(place);
             error.to_string()
         });
@@ -197,6 +201,7 @@ mod tests {
                 "steps_per_window is above 16777216",
                 "windows is above 16777216",
                 "transient_windows is above 16777216",
+                "steps_per_transient_window is above 16777216",
                 "a count is above 16777216",
                 "a count is above 16777216",
             ]
@@ -206,7 +211,7 @@ mod tests {
     #[test]
     fn every_error_has_words_of_its_own() {
         let words = |number| LyapunovError::from_number(number, 0).unwrap().to_string();
-        let all: std::collections::BTreeSet<String> = (1..=28).map(words).collect();
-        assert_eq!(all.len(), 28);
+        let all: std::collections::BTreeSet<String> = (1..=29).map(words).collect();
+        assert_eq!(all.len(), 29);
     }
 }

@@ -57,7 +57,8 @@ pub use input::{System, DEFAULT_SEED, MAX_DIMENSION};
 pub use rk4::Rk4;
 pub use store::Store;
 
-/// The largest number of steps a window, of measured windows and of warm-up windows, each.
+/// The largest number of steps a measured window and a warm-up window, of measured windows and of
+/// warm-up windows, each.
 pub const MAX_COUNT: usize = input::MAX_COUNT as usize;
 
 /// The most exponents of a dimension or an entropy.

@@ -37,6 +37,15 @@ impl Chooser {
         SIZES[at]
     }
 
+    /// Mostly the size that is given.
+    fn or_size(&mut self, given: usize) -> usize {
+        let other = self.size();
+        match self.0.next_u64() % 4 {
+            0 => other,
+            _ => given,
+        }
+    }
+
     fn short(&mut self) -> usize {
         let at = self.0.next_u64() as usize % SHORT.len();
         SHORT[at]
@@ -104,14 +113,17 @@ fn chooser(seed: u64) -> Chooser {
 fn runs() {
     let mut chooser = chooser(1);
     let (mut answered, mut refused) = (0, 0);
-    for _ in 0..20_000 {
+    for _ in 0..40_000 {
         let stepper = Rk4::new(chooser.system());
         let state = chooser.state(stepper.dimension());
         let (k, steps, windows) = (chooser.size(), chooser.size(), chooser.size());
         let Ok(config) = BenettinConfig::new(k, chooser.float(), steps, windows) else {
             continue;
         };
-        let config = config.with_transient_windows(chooser.size());
+        let warm_up_steps = chooser.or_size(steps);
+        let config = config
+            .with_transient_windows(chooser.size())
+            .with_steps_per_transient_window(warm_up_steps);
         match estimate_spectrum_at(&stepper, chooser.float(), &state, &config) {
             Ok(estimate) => {
                 answered += 1;
@@ -119,12 +131,13 @@ fn runs() {
                 assert_eq!(estimate.faint_counts().len(), k);
                 assert_eq!(estimate.finite_time_estimates().len(), windows);
                 assert_eq!(estimate.final_state().len(), state.len());
-                let all = steps as u64 * (windows + config.transient_windows()) as u64;
+                let warm_up = config.steps_per_transient_window() * config.transient_windows();
+                let all = (steps * windows + warm_up) as u64;
                 assert_eq!(estimate.steps(), all);
             }
             Err(run) => {
                 refused += 1;
-                assert!((1..=25).contains(&run.error().number()));
+                assert!((1..=29).contains(&run.error().number()));
                 assert!(run.finite_time_estimates().len() <= windows);
                 assert!(!run.to_string().is_empty());
             }
@@ -191,7 +204,9 @@ fn side_by_side() {
         let Ok(config) = BenettinConfig::new(k, h, chooser.short(), chooser.short()) else {
             continue;
         };
-        let config = config.with_transient_windows(chooser.short());
+        let config = config
+            .with_transient_windows(chooser.short())
+            .with_steps_per_transient_window(chooser.short());
         let alone = estimate_spectrum_at(&stepper, time, &state, &config);
         match dispatcher.hand_in(&stepper, time, &state, &config) {
             Ok(name) => expected[name] = Some(alone),

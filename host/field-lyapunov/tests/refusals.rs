@@ -53,6 +53,29 @@ fn warm_up_is_tested_by_the_run() {
     }
 }
 
+/// With and without warm-up windows.
+#[test]
+fn warm_up_steps_are_tested_by_the_run() {
+    let tested = |config: BenettinConfig, steps: usize| {
+        let config = config.with_steps_per_transient_window(steps);
+        run(&linear(1, &[0.0]), &[1.0], &config)
+    };
+    for warm_up in [0, 2] {
+        let config = config(1).with_transient_windows(warm_up);
+        let error = tested(config.clone(), 0);
+        assert_eq!(error, LyapunovError::ZeroStepsPerTransientWindow);
+        for over in [MAX_COUNT + 1, usize::MAX] {
+            let error = tested(config.clone(), over);
+            assert_eq!(error, LyapunovError::CountAboveLimit(3));
+        }
+    }
+    let over = config(1).with_transient_windows(MAX_COUNT + 1);
+    let error = tested(over.clone(), 0);
+    assert_eq!(error, LyapunovError::ZeroStepsPerTransientWindow);
+    let error = tested(over, MAX_COUNT + 1);
+    assert_eq!(error, LyapunovError::CountAboveLimit(2));
+}
+
 #[test]
 fn start_time() {
     for time in [f64::NAN, f64::INFINITY, f64::NEG_INFINITY] {

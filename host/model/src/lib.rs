@@ -1,10 +1,10 @@
 //! Document 01, with document 02's requests a (rings), b (the place of refusal 5), c (states kept
-//! under a number), d (sums from −0.0) and f (runs side by side), as plain Rust, written from the
-//! documents and not from the source.
+//! under a number), d (sums from −0.0), f (runs side by side) and g (steps of warm-up windows), as
+//! plain Rust, written from the documents and not from the source.
 //!
-//! It answers what the source has no behaviour for (refusals 5, 8, 9, 13, 21, 23 to 28, the bound of
-//! 16 in 19, faint counts, the rows of a refused run, turns) and is a second opinion on the rest. It
-//! favours plainness over speed.
+//! It answers what the source has no behaviour for (refusals 5, 8, 9, 13, 21, 23 to 29, the bound of
+//! 16 in 19, faint counts, the rows of a refused run, turns, other steps in the warm-up) and is a
+//! second opinion on the rest. It favours plainness over speed.
 
 mod arithmetic;
 mod dispatcher;

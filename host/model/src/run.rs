@@ -37,7 +37,8 @@ pub struct Estimate {
     pub measured_time: f64,
 }
 
-/// The place of refusal 5: the first count that is over, in the order steps, windows, warm-up.
+/// The place of refusal 5: the first count that is over, in the order steps, windows, warm-up, steps of
+/// a warm-up window.
 pub fn first_count_over(settings: &Settings) -> Option<u64> {
     if settings.steps_per_window > MAX_COUNT {
         Some(0)
@@ -45,17 +46,20 @@ pub fn first_count_over(settings: &Settings) -> Option<u64> {
         Some(1)
     } else if settings.transient_windows > MAX_COUNT {
         Some(2)
+    } else if settings.transient_steps() > MAX_COUNT {
+        Some(3)
     } else {
         None
     }
 }
 
-/// Tests 1 to 5.
+/// Tests 1 to 5, with 29 after 4.
 pub fn build_config(settings: &Settings) -> Result<(), Refusal> {
     refuse_if(settings.top_k == 0, Refusal::of(1))?;
     refuse_if(!is_step_size(settings.step_size), Refusal::of(2))?;
     refuse_if(settings.steps_per_window == 0, Refusal::of(3))?;
     refuse_if(settings.windows == 0, Refusal::of(4))?;
+    refuse_if(settings.transient_steps() == 0, Refusal::of(29))?;
     match first_count_over(settings) {
         Some(place) => Err(Refusal::at(5, place)),
         None => Ok(()),
@@ -98,7 +102,7 @@ pub(crate) fn refused(refusal: Refusal, finished: u64, steps: u64) -> Estimate {
     }
 }
 
-/// Tests 1 to 12, in number order, with 25 after 8.
+/// Tests 1 to 12, in number order, with 29 after 4 and 25 after 8.
 pub fn validate(
     system: &System,
     time: f64,
@@ -175,10 +179,15 @@ impl Run {
         outputs: &mut Outputs,
     ) -> Option<Estimate> {
         self.begun += 1;
-        if let Err(refusal) = self.window(system) {
+        let is_measured = self.begun > self.settings.transient_windows;
+        let steps = match is_measured {
+            true => self.settings.steps_per_window,
+            false => self.settings.transient_steps(),
+        };
+        if let Err(refusal) = self.window(system, steps) {
             return Some(refused(refusal, self.finished, self.steps));
         }
-        if self.begun > self.settings.transient_windows {
+        if is_measured {
             self.report(outputs);
         }
         (self.finished == self.settings.windows).then(|| self.end(outputs))
@@ -212,9 +221,9 @@ impl Run {
         orthonormalise(&mut self.directions, self.state.len(), &mut self.norms)
     }
 
-    fn window(&mut self, system: &System) -> Result<(), Refusal> {
+    fn window(&mut self, system: &System, steps: u64) -> Result<(), Refusal> {
         let h = self.settings.step_size;
-        for _ in 0..self.settings.steps_per_window {
+        for _ in 0..steps {
             advance(system, h, &mut self.state, &mut self.directions)?;
             let next = self.time + h;
             refuse_if(!next.is_finite(), Refusal::of(18))?;

@@ -143,6 +143,7 @@ fn numbers(input: Input) -> Vec<u64> {
         settings.step_size.to_bits(),
         settings.steps_per_window,
         settings.transient_windows,
+        settings.transient_steps(),
         settings.seed,
     ];
     for list in [&floats[..], input.state] {

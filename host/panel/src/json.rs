@@ -72,6 +72,10 @@ fn input(circuit: &Circuit, config: &BenettinConfig) -> Vec<Field> {
         ("steps_per_window", config.steps_per_window().to_string()),
         ("windows", config.windows().to_string()),
         ("transient_windows", config.transient_windows().to_string()),
+        (
+            "steps_per_transient_window",
+            config.steps_per_transient_window().to_string(),
+        ),
         // A program may hold numbers as floats, which have no room for 64 bits.
         ("seed", text(&format!("0x{:016x}", config.seed()))),
     ]

@@ -26,6 +26,8 @@ the run
   --steps N            steps a window (10)
   --windows N          measured windows (50000)
   --warm-up N          windows before them that are not measured (1000)
+  --warm-up-steps N    steps of each of these (those of a measured window). For a circuit that settles
+                       slowly: settle it in few long windows, measure it in short ones
   --seed S             of the directions, decimal or 0x.. (0x4c594150554e4f56)
   --then B,B,...       continuations: goes on from the measured windows by so many more, each
                        time from the same end, and shows the rates beside each other
@@ -99,6 +101,7 @@ struct Given {
     steps: Option<usize>,
     windows: Option<usize>,
     warm_up: Option<usize>,
+    warm_up_steps: Option<usize>,
     seed: Option<u64>,
 }
 
@@ -156,7 +159,7 @@ fn given<'a>(
 
 /// The options with a value.
 fn is_option(word: &str) -> bool {
-    const OPTIONS: [&str; 17] = [
+    const OPTIONS: [&str; 18] = [
         "--system",
         "--parameters",
         "--matrix",
@@ -169,6 +172,7 @@ fn is_option(word: &str) -> bool {
         "--steps",
         "--windows",
         "--warm-up",
+        "--warm-up-steps",
         "--seed",
         "--then",
         "--circuits",
@@ -191,6 +195,7 @@ fn set(given: &mut Given, around: &mut Around, option: &str, value: &str) -> Res
         "--steps" => given.steps = Some(count(value)?),
         "--windows" => given.windows = Some(count(value)?),
         "--warm-up" => given.warm_up = Some(count(value)?),
+        "--warm-up-steps" => given.warm_up_steps = Some(count(value)?),
         "--seed" => given.seed = Some(seed(value)?),
         "--then" => around.then = value.split(',').map(count).collect::<Result<_, _>>()?,
         "--circuits" => around.circuits = Some(PathBuf::from(value)),
@@ -211,8 +216,10 @@ fn fitted(name: Option<&str>, given: Given) -> Result<Circuit, String> {
         given.windows.unwrap_or(50_000),
     );
     let rest = |config: BenettinConfig| {
+        let warm_up_steps = given.warm_up_steps.unwrap_or(config.steps_per_window());
         config
             .with_transient_windows(given.warm_up.unwrap_or(1_000))
+            .with_steps_per_transient_window(warm_up_steps)
             .with_seed(given.seed.unwrap_or(DEFAULT_SEED))
     };
     Ok(Circuit {

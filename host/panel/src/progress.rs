@@ -129,13 +129,18 @@ fn cells(state: &State, elapsed: Duration) -> [String; 3] {
                 Some(measured) => of(measured, windows),
                 None => format!("warm-up {}", of(*begun, warm_up)),
             };
-            [
-                done,
-                left(elapsed, *begun, warm_up + windows),
-                listed(rates),
-            ]
+            let (done_steps, all) = (steps(config, *begun), steps(config, warm_up + windows));
+            [done, left(elapsed, done_steps, all), listed(rates)]
         }
     }
+}
+
+/// The steps of so many windows from the first on.
+fn steps(config: &BenettinConfig, windows: u64) -> u64 {
+    let warm_up = windows.min(config.transient_windows() as u64);
+    let measured = windows - warm_up;
+    warm_up * config.steps_per_transient_window() as u64
+        + measured * config.steps_per_window() as u64
 }
 
 fn of(done: u64, all: u64) -> String {
@@ -147,12 +152,12 @@ fn listed(rates: &[f64]) -> String {
     rates.join("  ")
 }
 
-/// The time for the windows that are left, by that for those so far.
-fn left(elapsed: Duration, begun: u64, all: u64) -> String {
-    if begun == 0 {
+/// The time for the steps that are left, by that for those so far.
+fn left(elapsed: Duration, done: u64, all: u64) -> String {
+    if done == 0 {
         return String::new();
     }
-    let seconds = (elapsed.as_secs_f64() * (all - begun) as f64 / begun as f64).ceil() as u64;
+    let seconds = (elapsed.as_secs_f64() * (all - done) as f64 / done as f64).ceil() as u64;
     match (seconds / 3600, seconds / 60 % 60, seconds % 60) {
         (0, 0, seconds) => format!("{seconds} s"),
         (0, minutes, seconds) => format!("{minutes} min {seconds} s"),
@@ -203,6 +208,17 @@ mod tests {
                 "bad                                        refused",
             ]
         );
+    }
+
+    /// 10 warm-up windows of 900 steps, and 1,000 measured ones of 9.
+    #[test]
+    fn windows_count_by_their_steps() {
+        let config = BenettinConfig::new(1, 0.01, 9, 1_000).unwrap();
+        let config = config
+            .with_transient_windows(10)
+            .with_steps_per_transient_window(900);
+        let done = [0, 1, 10, 11, 1_010].map(|windows| steps(&config, windows));
+        assert_eq!(done, [0, 900, 9_000, 9_009, 18_000]);
     }
 
     #[test]

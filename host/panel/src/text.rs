@@ -103,15 +103,23 @@ fn input(circuit: &Circuit) -> String {
     if let Ok(config) = &circuit.config {
         let _ = writeln!(
             text,
-            "step size {}, steps a window {}, windows {} after {} of warm-up, seed 0x{:016x}",
+            "step size {}, steps a window {}, windows {} after {} of warm-up{}, seed 0x{:016x}",
             config.step_size(),
             config.steps_per_window(),
             config.windows(),
             config.transient_windows(),
+            own_warm_up_steps(config)
+                .map_or(String::new(), |steps| format!(" with {steps} steps each")),
             config.seed()
         );
     }
     text
+}
+
+/// The steps of a warm-up window, where they are not those of a measured one.
+fn own_warm_up_steps(config: &BenettinConfig) -> Option<usize> {
+    let steps = config.steps_per_transient_window();
+    (steps != config.steps_per_window()).then_some(steps)
 }
 
 /// With `digits` after the point, and with an exponent where it is long before the point.
@@ -152,12 +160,15 @@ fn warning(circuit: &Circuit, estimate: &SpectrumEstimate) -> String {
     let (Some(first), Ok(config)) = (first, &circuit.config) else {
         return String::new();
     };
-    let all = estimate.steps() / config.steps_per_window() as u64;
+    let all = config.transient_windows() + estimate.finished_windows();
     let count = counts[first];
+    let of_warm_up = own_warm_up_steps(config).map_or(String::new(), |steps| {
+        format!("; in the warm-up --warm-up-steps, now {steps}")
+    });
     format!(
         "\nWARNING: direction {first} became so short in {count} of {all} windows that its square \
          is below 2^-960.\nThe rates from direction {first} on may be wrong, although they look \
-         like rates.\nRun again with shorter windows: fewer steps a window (--steps, now {}) or a \
+         like rates.\nRun again with shorter windows: fewer steps a window (--steps, now {}{of_warm_up}) or a \
          smaller step size (--step, now {}).\n",
         config.steps_per_window(),
         config.step_size()
@@ -176,7 +187,10 @@ fn option(error: &LyapunovError, then: Option<usize>) -> &'static str {
         LyapunovError::CountAboveLimit(0) => " (--steps)",
         LyapunovError::CountAboveLimit(1) if then.is_some() => " (--windows and --then together)",
         LyapunovError::CountAboveLimit(1) => " (--windows)",
-        LyapunovError::CountAboveLimit(_) => " (--warm-up)",
+        LyapunovError::CountAboveLimit(2) => " (--warm-up)",
+        LyapunovError::CountAboveLimit(_) | LyapunovError::ZeroStepsPerTransientWindow => {
+            " (--warm-up-steps)"
+        }
         _ => "",
     }
 }

@@ -3,6 +3,7 @@
 mod circuits;
 mod interrupt;
 mod json;
+mod warm_up;
 
 use std::fs;
 use std::path::PathBuf;
@@ -538,7 +539,7 @@ fn help() {
     for word in ["--help", "-h"] {
         let output = panel(&[word]);
         assert_eq!(output.status.code(), Some(0));
-        assert!(stdout(&output).contains("--warm-up"));
+        assert!(stdout(&output).contains("--warm-up-steps"));
         assert!(stdout(&output).contains("--then"));
     }
 }

@@ -49,7 +49,7 @@ module _ {i : Input} {K : ℕ} {M : Memory} (T : TakesIn i K M) where
   array_room : (t : List Float) → length t ≡ length (take many (replicate 256 zero⁺)) → many ≤ length (t ++ drop many (replicate 256 zero⁺))
   array_room t e = rw (length-append t) (omega (arith, tangents_many t e))
 
-  name_below : {n : ℕ} → length M.queue ≡ 65 → n ≡ least_free (names_in M.queue) → n < 8
+  name_below : {n : ℕ} → length M.queue ≡ 73 → n ≡ least_free (names_in M.queue) → n < 8
   name_below l e = let q = M.queue in omega (arith, e, least_most (names_in q), names_many q l, T.room)
 
 pub overflow_mul-kd : goal.overflow_mul-kd
@@ -111,8 +111,8 @@ enqueue-requires c =
     let g₀ = a.config in
     let q = a.queue.now in
     let e = c.save_settings.ensures.1 in
-    let k = ap (λ (x : List ℕ). get_or x 56 0) e ∙ count_kept q c.new_name-name.result ((numbers a.system).kind ∷ (numbers a.system).dimension ∷ g₀.top_k ∷ g₀.steps_per_window ∷ g₀.windows ∷ g₀.transient_windows ∷ 0 ∷ []) (omega (arith, name_below c.requires (omega arith) c.new_name-name.ensures)) in
-    let m : length c.save_settings.new.queue ≡ 65 = omega (arith, c.save_settings.auto.queue) in
+    let k = ap (λ (x : List ℕ). get_or x 64 0) e ∙ count_kept q c.new_name-name.result ((numbers a.system).kind ∷ (numbers a.system).dimension ∷ g₀.top_k ∷ g₀.steps_per_window ∷ g₀.windows ∷ g₀.transient_windows ∷ g₀.steps_per_transient_window ∷ 0 ∷ []) (omega (arith, name_below c.requires (omega arith) c.new_name-name.ensures)) in
+    let m : length c.save_settings.new.queue ≡ 73 = omega (arith, c.save_settings.auto.queue) in
     omega (arith, names_many c.save_settings.new.queue m, k, c.requires.room)
 
 pub returns : goal.returns

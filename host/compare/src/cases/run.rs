@@ -107,7 +107,7 @@ impl Called for Run {
 
 impl Run {
     /// The tests before the first step in their order.
-    pub const TESTS: [u64; 16] = [1, 2, 3, 4, 5, 6, 7, 8, 25, 9, 10, 11, 12, 13, 14, 15];
+    pub const TESTS: [u64; 17] = [1, 2, 3, 4, 29, 5, 6, 7, 8, 25, 9, 10, 11, 12, 13, 14, 15];
 
     /// What is handed in apart from the outputs; these just fit.
     pub fn read_input(fields: &mut Fields) -> Result<Self, String> {
@@ -271,8 +271,12 @@ impl Run {
     }
 
     /// The source's first failing test up to 12; nothing where one of 5, 8, 25 and 9, which it does
-    /// not have, fails before it. It is stopped at its first evaluation.
+    /// not have, fails before it, or where warm-up windows have steps of their own. It is stopped at
+    /// its first evaluation.
     pub fn validated_by_source(&self, source: &dyn Source) -> Option<Refusal> {
+        if !settings::has_equal_steps(&self.settings) {
+            return None;
+        }
         if model::first_count_over(&self.settings).is_some() {
             return match source.build_config(&self.settings) {
                 End::Refused(refusal) => Some(refusal),

@@ -184,7 +184,7 @@ pub fn expected() -> Vec<Label> {
     };
     add(0, &[EMPTIED, FORGOTTEN, KEPT, KEPT_AGAIN]);
     add(0, &[AGAIN_AMONG_EIGHT, IN_FORGOTTEN_PLACE]);
-    for number in (1..=18).chain([25]) {
+    for number in (1..=18).chain([25, 29]) {
         add(number, &[ON_KEEPING, ON_KEEPING_USED]);
     }
     for number in [14, 16, 17, 18] {
@@ -205,11 +205,11 @@ fn expected_of_going_on() -> Vec<Label> {
     let mut expected: Vec<Label> = gone_on
         .map(|more| (0, format!("{GONE_ON}{more}")))
         .collect();
-    for number in [1, 2, 3, 4, 6, 7, 8, 25, 9, 10, 11, 12] {
+    for number in [1, 2, 3, 4, 29, 6, 7, 8, 25, 9, 10, 11, 12] {
         expected.push((number, ON_GOING_ON.to_string()));
     }
-    for number in [5, 13] {
-        expected.extend([0, 1, 2].map(|place| (number, at_place(place))));
+    for (number, places) in [(5, 0..4), (13, 0..3)] {
+        expected.extend(places.map(|place| (number, at_place(place))));
     }
     for number in [14, 16, 17, 18] {
         expected.extend([IN_FIRST, AFTER_ROW].map(|label| (number, label.to_string())));
@@ -225,7 +225,7 @@ fn expected_of_going_on() -> Vec<Label> {
 mod tests {
     use super::*;
     use crate::cases::{Case, Reference};
-    use crate::generate::kept;
+    use crate::generate::{kept, warm_up};
 
     /// The fixed list has every label, but each refused keep either over a used number or not, and
     /// nothing that was not kept is brought.
@@ -234,7 +234,7 @@ mod tests {
         let plain = |(number, label): Label| (number, label.replace(", a used number", ""));
         let (mut events, mut reference) = (Events::default(), Reference::default());
         let mut met = BTreeSet::new();
-        for (call, _) in kept::calls() {
+        for (call, _) in kept::calls().into_iter().chain(warm_up::kept()) {
             let answers = reference.answers(&call, None);
             let model = answers.as_ref().map(|(model, _)| model);
             met.extend(events.of(&call, model).into_iter().map(plain));

@@ -162,6 +162,11 @@ fn settings(bytes: &mut Bytes) -> Settings {
         0 => MAX_COUNT + 1,
         other => other as u64 % 4,
     };
+    settings.steps_per_transient_window = match bytes.below(40) {
+        0 => Some(MAX_COUNT + 1),
+        other @ 1..=9 => Some(other as u64 % 5),
+        _ => None,
+    };
     settings.seed = bytes.number();
     // Counts at the limit make a long run unless steps or windows are over: `estimate_largest` has
     // no warm-up windows.

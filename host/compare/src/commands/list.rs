@@ -2,11 +2,11 @@
 
 use super::many::{run_label, step_label, unlabelled};
 use crate::cases::{
-    dispatcher, Build, Case, Draw, Listed, Log, Orth, Program, Rates, Reference, Root, Run, Step,
-    Turned, Validate,
+    dispatcher, Build, Call, Case, Draw, Listed, Log, Orth, Program, Rates, Reference, Root, Run,
+    Step, Turned, Validate,
 };
 use crate::circuit::{Systems, RING};
-use crate::generate::{self, counts, edges, kept, patterns, seeds, turns};
+use crate::generate::{self, counts, edges, kept, patterns, seeds, turns, warm_up};
 use crate::random::Random;
 use crate::tally::Tally;
 use crate::values::Answer;
@@ -70,6 +70,13 @@ const DISPATCHED: &str = "\
 # told once it is over. by=oracle: the source made that run alone. by=model: it has no turns.
 ";
 
+/// What stands before the cases of request g.
+const WARM_UP_STEPS: &str = "\
+# Steps of warm-up windows: document 02's request g. warmupsteps= gives the steps of each warm-up window;
+# left out they are those of a measured one. by=oracle: they are equal; the source has no others. by=model:
+# it has no 29 and no place 3 of 5 either. The calls of a store, and those of a dispatcher, begin anew.
+";
+
 /// Lines longer than this are not taken from the random inputs.
 const LONGEST: usize = 1200;
 
@@ -91,6 +98,7 @@ pub fn write_list() -> Result<String, String> {
     list.kept()?;
     list.sums()?;
     list.dispatched()?;
+    list.warm_up_steps()?;
     println!("{} cases, {} bytes", list.cases, list.text.len());
     Ok(list.text)
 }
@@ -313,6 +321,33 @@ impl List {
         Ok(())
     }
 
+    fn warm_up_steps(&mut self) -> Result<(), String> {
+        self.text.push_str(WARM_UP_STEPS);
+        for (run, remark) in warm_up::without_steps() {
+            self.add(&Build(run.settings), remark)?;
+            self.add(&Validate(run.clone()), remark)?;
+            self.add(&run, remark)?;
+        }
+        for (settings, remark) in counts::at_limit_with_warm_up_steps() {
+            // Where no count is over, 6 refuses the run, so that it is not long.
+            let is_over = counts::label(&settings) != counts::OVER[0];
+            let run = counts::run_at_rest(settings, if is_over { 0.0 } else { f64::NAN });
+            self.add(&Build(settings), &remark)?;
+            self.add(&Validate(run.clone()), &remark)?;
+            self.add(&run, &remark)?;
+        }
+        let mut runs = warm_up::of_every_system();
+        runs.extend(warm_up::of_lengths());
+        runs.extend(warm_up::refused_while_they_run());
+        for (run, remark) in runs {
+            self.add(&run, remark)?;
+        }
+        self.calls_of_a_store(warm_up::kept())?;
+        self.calls_of_a_dispatcher(turns::calls_with_warm_up_steps())?;
+        self.random = Random::seeded(1).with_warm_up_steps();
+        self.add_random::<Run>(4, 4_000, run_with_warm_up_steps, run_label)
+    }
+
     fn sums(&mut self) -> Result<(), String> {
         self.text.push_str(SUMS);
         for orth in edges::turned_zeros() {
@@ -344,8 +379,12 @@ impl List {
     /// Calls of one store.
     fn kept(&mut self) -> Result<(), String> {
         self.text.push_str(KEPT);
+        self.calls_of_a_store(kept::calls())
+    }
+
+    fn calls_of_a_store(&mut self, calls: Vec<(Call, &str)>) -> Result<(), String> {
         let mut reference = Reference::default();
-        for (call, remark) in kept::calls() {
+        for (call, remark) in calls {
             let answers = reference.answers(&call, Some(self.source));
             let (model, source) = answers.ok_or_else(|| format!("free: {}", call.written()))?;
             self.add_agreed(&model, source, |id, by| {
@@ -358,8 +397,15 @@ impl List {
     /// Calls of one dispatcher.
     fn dispatched(&mut self) -> Result<(), String> {
         self.text.push_str(DISPATCHED);
+        self.calls_of_a_dispatcher(turns::calls())
+    }
+
+    fn calls_of_a_dispatcher(
+        &mut self,
+        calls: Vec<(dispatcher::Call, &str)>,
+    ) -> Result<(), String> {
         let mut reference = dispatcher::Reference::default();
-        for (call, remark) in turns::calls() {
+        for (call, remark) in calls {
             let (model, alone) = reference.answers(&call);
             let source = alone.and_then(|run| run.source(self.source));
             let source = source.map(|answer| call.part_of(answer));
@@ -368,6 +414,16 @@ impl List {
             })?;
         }
         Ok(())
+    }
+}
+
+/// A random run that gives the steps of its warm-up windows.
+fn run_with_warm_up_steps(index: u64, random: &mut Random) -> Run {
+    loop {
+        let run = generate::runs::run(index, random);
+        if run.settings.steps_per_transient_window.is_some() {
+            return run;
+        }
     }
 }
 

@@ -41,7 +41,7 @@ pub fn rates(inputs: Inputs) -> bool {
 }
 
 pub fn settings(inputs: Inputs) -> bool {
-    let mut expected = [0, 1, 2, 3, 4].map(|number| (number, "")).to_vec();
+    let mut expected = [0, 1, 2, 3, 4, 29].map(|number| (number, "")).to_vec();
     expected.extend(by_5(&counts::OVER[1..]));
     let generate = |index, random: &mut Random| Build(counts::settings(index, random));
     let label = |build: &Build, answer: &Answer| label_of_5(&build.0, answer).to_string();
@@ -66,6 +66,7 @@ pub fn runs(inputs: Inputs) -> bool {
         (0, FAINT),
         (0, INFINITE_RATE),
         (0, INFINITE_TIME),
+        (0, OWN_STEPS),
         (13, ""),
         (14, AT_DRAW),
         (14, IN_WARM_UP),
@@ -109,7 +110,8 @@ pub fn from_zero(inputs: Inputs) -> bool {
     expected.extend([14, 16, 17].map(|number| (number, BEFORE_ROWS)));
     let largest = |index, random: &mut Random| counts::run(index, random).largest();
     let one = compare::<Run>("estimate_largest", inputs, largest, label_with_5, &expected);
-    expected.extend([(1, ""), (12, ""), (14, AT_DRAW), (18, BEFORE_ROWS)]);
+    expected.extend([(0, OWN_STEPS), (1, ""), (12, ""), (29, "")]);
+    expected.extend([(14, AT_DRAW), (18, BEFORE_ROWS)]);
     expected.extend(by_5(&counts::OVER[4..]));
     expected.extend([14, 16, 17, 18].map(|number| (number, IN_WARM_UP)));
     let all = |index, random: &mut Random| counts::run(index, random).at_zero();
@@ -118,7 +120,7 @@ pub fn from_zero(inputs: Inputs) -> bool {
 
 /// The refusals that do not look at a run's outputs, 5 with every combination of counts over.
 fn tests_of_input() -> impl Iterator<Item = (u64, &'static str)> {
-    let others = (1..=12).filter(|number| *number != 5).chain([25]);
+    let others = (1..=12).filter(|number| *number != 5).chain([25, 29]);
     others
         .map(|number| (number, ""))
         .chain(by_5(&counts::OVER[1..]))
@@ -133,6 +135,7 @@ const NONE_POSITIVE: &str = ", no rate above 0";
 const FAINT: &str = ", a faint direction";
 const INFINITE_RATE: &str = ", an infinite rate";
 const INFINITE_TIME: &str = ", infinite measured time";
+const OWN_STEPS: &str = ", warm-up windows with other steps";
 const AT_DRAW: &str = " at the draw";
 const IN_WARM_UP: &str = " in a warm-up window";
 const BEFORE_ROWS: &str = " in the first measured window";
@@ -182,13 +185,16 @@ pub fn run_label(run: &Run, answer: &Answer) -> String {
         Some(Value::Floats(values)) => values.iter().any(|x| x.is_infinite()),
         _ => false,
     };
-    let steps = run.settings.steps_per_window;
-    let warm_up = steps.saturating_mul(run.settings.transient_windows);
+    let settings = &run.settings;
+    let transient_steps = settings.transient_steps();
+    let warm_up = transient_steps.saturating_mul(settings.transient_windows);
+    let has_others = warm_up > 0 && transient_steps != settings.steps_per_window;
     let collapsed = answer.number() == 14;
     let label = match answer.number() {
         0 if infinite("mtime") => INFINITE_TIME,
         0 if infinite("rows") || infinite("exps") => INFINITE_RATE,
         0 if answer.is_faint() => FAINT,
+        0 if has_others => OWN_STEPS,
         0 => run.circuit.label(),
         14 if answer.count("made") == 0 => AT_DRAW,
         14 | 16 | 17 | 18 if answer.count("finished") > 0 => AFTER_ROWS,

@@ -35,7 +35,9 @@ pub struct Inputs {
 
 impl Inputs {
     fn random(&self) -> Random {
-        Random::seeded(self.seed).with(self.systems)
+        Random::seeded(self.seed)
+            .with(self.systems)
+            .with_warm_up_steps()
     }
 
     /// Whether inputs of one kind had every size that it can have.

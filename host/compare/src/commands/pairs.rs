@@ -186,7 +186,7 @@ impl Met {
 fn expected(systems: Systems) -> Vec<(u64, String)> {
     let tests: &[u64] = match systems.kind() {
         Some(_) => &[14, 15, 16, 17],
-        None => &[2, 3, 4, 5, 6, 25, 9, 10, 11, 14, 15, 16, 17, 18],
+        None => &[2, 3, 4, 29, 5, 6, 25, 9, 10, 11, 14, 15, 16, 17, 18],
     };
     let mut expected: Vec<_> = tests.iter().map(|n| (*n, EQUAL.to_string())).collect();
     if matches!(systems, Systems::All | Systems::Of(RING)) {

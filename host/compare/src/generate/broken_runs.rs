@@ -62,12 +62,31 @@ const BREAKS: [(u64, Break); 23] = [
     (15, long_window),
 ];
 
+/// Those of the steps of a warm-up window, where they are drawn.
+const BREAKS_OF_WARM_UP_STEPS: [(u64, Break); 2] = [
+    (29, |run, _| {
+        run.settings.steps_per_transient_window = Some(0)
+    }),
+    (5, |run, random| {
+        run.settings.steps_per_transient_window = Some(settings::over(random))
+    }),
+];
+
 /// The number of pairs of failing tests, each test alone included.
-pub const PAIRS: u64 = pairs(BREAKS.len()) as u64;
+pub const PAIRS: u64 = pairs(BREAKS.len() + BREAKS_OF_WARM_UP_STEPS.len()) as u64;
+
+/// Those that the drawn runs can fail.
+fn breaks(random: &Random) -> Vec<(u64, Break)> {
+    let mut breaks = tests_of(&BREAKS, random);
+    if random.warm_up_steps {
+        breaks.extend(BREAKS_OF_WARM_UP_STEPS);
+    }
+    breaks
+}
 
 /// The run with the failing tests of a pair; every pair has its turn.
 pub fn broken(index: u64, random: &mut Random) -> Run {
-    let breaks = tests_of(&BREAKS, random);
+    let breaks = breaks(random);
     let (first, second) = pair(index, breaks.len());
     let mut run = whole_run(random);
     breaks[first].1(&mut run, random);
@@ -79,7 +98,7 @@ pub fn broken(index: u64, random: &mut Random) -> Run {
 
 /// A run for each failing test.
 pub fn each(random: &mut Random) -> Vec<Run> {
-    let breaks = tests_of(&BREAKS, random);
+    let breaks = breaks(random);
     let mut failing = |fail: &Break| {
         let mut run = whole_run(random);
         fail(&mut run, random);
@@ -90,7 +109,7 @@ pub fn each(random: &mut Random) -> Vec<Run> {
 
 /// Runs that fail two tests next to each other in the order of tests.
 pub fn neighbours(random: &mut Random) -> Vec<Run> {
-    let breaks = tests_of(&BREAKS, random);
+    let breaks = breaks(random);
     let at = |number: u64| breaks.iter().position(|test| test.0 == number);
     let mut run = |first: usize, second: usize| {
         let mut run = whole_run(random);

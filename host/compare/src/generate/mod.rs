@@ -15,6 +15,7 @@ pub mod settings;
 pub mod step;
 pub mod stores;
 pub mod turns;
+pub mod warm_up;
 
 use crate::random::Random;
 

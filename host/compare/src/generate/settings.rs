@@ -10,7 +10,26 @@ pub fn short(random: &mut Random, top_k: usize, step_size: f64) -> Settings {
     let mut settings = Settings::new(top_k, step_size, steps, windows);
     settings.transient_windows = random.below(3);
     settings.seed = random.bits();
+    settings.steps_per_transient_window =
+        warm_up_steps(random, steps, |random| random.within(1, 6));
     settings
+}
+
+/// The steps of a warm-up window, where they are drawn: left out, given as those of a measured one, or
+/// others.
+fn warm_up_steps(
+    random: &mut Random,
+    steps: u64,
+    others: impl FnOnce(&mut Random) -> u64,
+) -> Option<u64> {
+    if !random.warm_up_steps {
+        return None;
+    }
+    match random.below(8) {
+        0..=2 => None,
+        3 => Some(steps),
+        _ => Some(others(random)),
+    }
 }
 
 /// A count that is over its limit.
@@ -20,13 +39,13 @@ pub fn over(random: &mut Random) -> u64 {
 
 /// Settings to be built, which may fail any of the tests 1 to 5.
 pub fn any(random: &mut Random) -> Settings {
-    let mut count = |low: u64| match random.below(6) {
-        0 => low,
+    let count = |random: &mut Random| match random.below(6) {
+        0 => 0,
         1 => MAX_COUNT,
         2 => over(random),
         _ => random.within(1, 100),
     };
-    let (steps, windows, transient_windows) = (count(0), count(0), count(0));
+    let (steps, windows, transient_windows) = (count(random), count(random), count(random));
     let top_k = random.pick(&[0, 1, 2, 3, 16, 17, usize::MAX]);
     let step_size = if random.one_in(4) {
         bad_step_size(random)
@@ -36,5 +55,6 @@ pub fn any(random: &mut Random) -> Settings {
     let mut settings = Settings::new(top_k, step_size, steps, windows);
     settings.transient_windows = transient_windows;
     settings.seed = random.bits();
+    settings.steps_per_transient_window = warm_up_steps(random, steps, count);
     settings
 }

@@ -123,9 +123,22 @@ impl Calls {
             }
             3 => shortened(run, random),
             4 | 5 => with_unused(run, random),
+            6 => with_equal_steps(run),
             _ => run,
         }
     }
+}
+
+/// Equal steps in warm-up windows are the same setting, given or left out.
+fn with_equal_steps(mut run: Run) -> Run {
+    let settings = &mut run.settings;
+    let steps = settings.steps_per_window;
+    match settings.steps_per_transient_window {
+        None => settings.steps_per_transient_window = Some(steps),
+        Some(given) if given == steps => settings.steps_per_transient_window = None,
+        Some(_) => {}
+    }
+    run
 }
 
 /// Whether no run or going on with it takes long: a count that is over the limit is refused.
@@ -133,6 +146,7 @@ fn is_short(run: &Run) -> bool {
     let settings = &run.settings;
     let within = |count: u64, most: u64| count <= most || count > MAX_COUNT;
     within(settings.steps_per_window, 16)
+        && within(settings.transient_steps(), 16)
         && within(settings.windows, 16)
         && within(settings.transient_windows, 16)
 }

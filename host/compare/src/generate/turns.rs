@@ -5,10 +5,12 @@ use super::circuits::{diagonal, linear};
 use super::edges::{linear_run, ring_run, usual_runs, with_windows};
 use super::kept::{decay, refused_in_a_later_window};
 use super::runs::HALVING;
+use super::warm_up::with_warm_up;
 use crate::cases::dispatcher::{Call, Lending, Reference, OVER};
 use crate::cases::{Run, Slices};
 use crate::random::Random;
 use crate::values::Answer;
+use input::MAX_COUNT;
 use std::collections::BTreeMap;
 
 /// The name of the linear system among all systems.
@@ -26,6 +28,14 @@ pub fn calls() -> Vec<Remarked> {
     script.refused_in_windows();
     script.eight();
     script.other_slices();
+    script.calls
+}
+
+/// Those of runs whose warm-up windows have steps of their own, in their order.
+pub fn calls_with_warm_up_steps() -> Vec<Remarked> {
+    let mut script = Script::default();
+    script.nobody();
+    script.warm_up_steps();
     script.calls
 }
 
@@ -238,6 +248,29 @@ impl Script {
         self.turn_of_nobody("nobody is next");
     }
 
+    /// Each system with other steps in its warm-up windows; hand-ins that are refused for them.
+    fn warm_up_steps(&mut self) {
+        let mut runs: Vec<Run> = usual_runs().into_iter().map(|(run, _)| run).collect();
+        runs.extend([decay(), ring_run(5, 8.0, 3)]);
+        for (run, steps) in runs.into_iter().zip([25, 1, 10, 3, 2]) {
+            let run = with_warm_up(with_windows(run, 2), 2, steps);
+            self.hand_in(&run, "each system");
+        }
+        let unfit = |steps: u64| with_warm_up(decay(), 0, steps);
+        self.hand_in(&unfit(0), "29 on hand-in");
+        self.hand_in(&unfit(MAX_COUNT + 1), "5 at the warm-up steps");
+        self.turns(10, "a warm-up window");
+        let mut collapse = linear_run(diagonal(&[HALVING]), 1, 1.0);
+        collapse.settings.steps_per_window = 481;
+        self.hand_in(
+            &with_warm_up(collapse.clone(), 1, 538),
+            "collapses in the warm-up",
+        );
+        self.hand_in(&with_warm_up(collapse, 1, 1), "is faint behind it");
+        self.all_turns("to the end");
+        self.next("all are over");
+    }
+
     /// Outputs that are made anew or exchanged between turns: what is written, and what stays as it was.
     fn other_slices(&mut self) {
         let mut faint = linear_run(diagonal(&[HALVING]), 1, 1.0);
@@ -279,6 +312,21 @@ mod tests {
         assert_eq!(hand_ins, expected.collect());
         let turns = numbers(|call| matches!(call, Call::Turn(_)));
         assert_eq!(turns, [0, 9, 13, 14, 16, 17, 18].into());
+    }
+
+    /// All runs with other steps in the warm-up are over, one of them by a collapse there.
+    #[test]
+    fn warm_up_steps_of_their_own() {
+        let mut script = Script::default();
+        script.nobody();
+        script.warm_up_steps();
+        assert_eq!(script.reference.next(), None);
+        assert!(script.lent.is_empty());
+        let mut reference = Reference::default();
+        let answers = calls_with_warm_up_steps().into_iter();
+        let answers = answers.map(|(call, _)| reference.answers(&call).0);
+        let numbers: BTreeSet<u64> = answers.map(|answer| answer.number()).collect();
+        assert_eq!(numbers, [0, 5, 14, 29].into());
     }
 
     /// The runs of the last part but one are forgotten; all others are over.

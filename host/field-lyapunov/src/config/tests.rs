@@ -14,29 +14,42 @@ type First = Option<(usize, &'static str)>;
 const STEPS: First = Some((0, "steps_per_window"));
 const WINDOWS: First = Some((1, "windows"));
 const WARM_UP: First = Some((2, "transient_windows"));
+const WARM_UP_STEPS: First = Some((3, "steps_per_transient_window"));
 
-/// Whether steps, windows and warm-up are over, and which of them is the first.
-const ROWS: [([bool; 3], First); 8] = [
-    ([false, false, false], None),
-    ([true, false, false], STEPS),
-    ([false, true, false], WINDOWS),
-    ([true, true, false], STEPS),
-    ([false, false, true], WARM_UP),
-    ([true, false, true], STEPS),
-    ([false, true, true], WINDOWS),
-    ([true, true, true], STEPS),
+/// Whether steps, windows, warm-up and the steps of a warm-up window are over, and which of them is
+/// the first.
+const ROWS: [([bool; 4], First); 16] = [
+    ([false, false, false, false], None),
+    ([true, false, false, false], STEPS),
+    ([false, true, false, false], WINDOWS),
+    ([true, true, false, false], STEPS),
+    ([false, false, true, false], WARM_UP),
+    ([true, false, true, false], STEPS),
+    ([false, true, true, false], WINDOWS),
+    ([true, true, true, false], STEPS),
+    ([false, false, false, true], WARM_UP_STEPS),
+    ([true, false, false, true], STEPS),
+    ([false, true, false, true], WINDOWS),
+    ([true, true, false, true], STEPS),
+    ([false, false, true, true], WARM_UP),
+    ([true, false, true, true], STEPS),
+    ([false, true, true, true], WINDOWS),
+    ([true, true, true, true], STEPS),
 ];
 
 /// The settings of each row, with counts at the limit or over it: by one, then by the most. Only
 /// here can they be made without a test.
-fn configs(rows: &[([bool; 3], First)]) -> Vec<(BenettinConfig, First)> {
+fn configs(rows: &[([bool; 4], First)]) -> Vec<(BenettinConfig, First)> {
     let mut all = vec![];
     for over in [LIMIT + 1, u64::MAX] {
         for (is_over, first) in rows {
-            let [steps, windows, warm_up] = is_over.map(|is| if is { over } else { LIMIT });
+            let [steps, windows, warm_up, warm_up_steps] =
+                is_over.map(|is| if is { over } else { LIMIT });
             let mut settings = Settings::new(1, 1.0, steps, windows);
             settings.transient_windows = warm_up;
-            all.push((BenettinConfig { settings }, *first));
+            let config = BenettinConfig { settings };
+            let config = config.with_steps_per_transient_window(warm_up_steps as usize);
+            all.push((config, *first));
         }
     }
     all
@@ -96,6 +109,43 @@ fn runs_for_the_largest() {
         let later = LyapunovError::NonFiniteInitialState(0);
         assert_refused(refused.error(), first, later);
     }
+}
+
+/// Equal steps that are given are those that are left out.
+#[test]
+fn equal_steps_are_the_same_setting() {
+    let config = BenettinConfig::new(1, 1.0, 7, 2).unwrap();
+    assert_eq!(config.steps_per_transient_window(), 7);
+    let other = config.clone().with_steps_per_transient_window(5);
+    assert_ne!(other, config);
+    assert_eq!(other.steps_per_transient_window(), 5);
+    assert_eq!(other.steps_per_window(), 7);
+    assert_eq!(other.with_steps_per_transient_window(7), config);
+}
+
+/// 29 is tested straight after 4 and before 5, and where there are no warm-up windows too.
+#[test]
+fn a_warm_up_window_without_steps() {
+    let tested = |windows: u64, warm_up: u64| {
+        let mut settings = Settings::new(1, 1.0, 3, windows);
+        settings.transient_windows = warm_up;
+        let config = BenettinConfig { settings }.with_steps_per_transient_window(0);
+        let stepper = Rk4::new(at_rest());
+        estimate_spectrum_at(&stepper, f64::NAN, &[0.0; 2], &config)
+            .unwrap_err()
+            .error()
+    };
+    for warm_up in [0, 1] {
+        assert_eq!(
+            tested(2, warm_up),
+            LyapunovError::ZeroStepsPerTransientWindow
+        );
+    }
+    assert_eq!(tested(0, 1), LyapunovError::ZeroWindows);
+    assert_eq!(
+        tested(LIMIT + 1, 1),
+        LyapunovError::ZeroStepsPerTransientWindow
+    );
 }
 
 #[test]

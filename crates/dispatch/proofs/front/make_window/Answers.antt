@@ -9,7 +9,7 @@ use Rattle.floats.proofs.Parts.{part_many}
 use Rattle.floats.proofs.Sets.{part_length}
 use Rattle.progress.proofs.Bounds.{bounded_up}
 use Rattle.benettin.specs.Estimate.{limit}
-use Rattle.dispatch.proofs.Windows.{directions, entries, room, row_room, place_small, lent, warm_up_made, refused_made, measured_made}
+use Rattle.dispatch.proofs.Windows.{directions, entries, room, next_few, row_room, place_small, lent, warm_up_made, refused_made, measured_made}
 use Rattle.dispatch.proofs.front.make_window.Goals as goal
 
 pub overflow_mul-e : goal.overflow_mul-e
@@ -23,21 +23,23 @@ slice_bounds-tangents-end c = let p = c.requires in omega (arith, directions p, 
 
 pub window-requires : goal.window-requires
 window-requires c =
-    let p = c.requires in
-    record {
-      passed = p.passed;
-      steps = p.steps;
-      tangents = ap length (lent p _) ∙ part_length _ _ _ (room p _ c.told-floats);
-      bounded = bounded_up (omega arith) (omega arith) p.bounded;
-    }
+    let p = c.requires in (
+      record {
+        passed = p.passed;
+        steps = p.steps;
+        tangents = ap length (lent p _) ∙ part_length _ _ _ (room p _ c.told-floats);
+        bounded = bounded_up (omega arith) (omega arith) p.bounded;
+      },
+      omega (arith, next_few p, c.steps_of_next-steps.ensures),
+    )
 
 pub returns-in_err-window : goal.returns-in_err-window
 returns-in_err-window c =
-    rw (handed_on c.from_residual.result c.from_residual.ensures.1) (refused_made c.requires _ _ c.told-floats (lent c.requires _) c.window.auto.tangents refl c.in_err-window.ensures)
+    rw (handed_on c.from_residual.result c.from_residual.ensures.1) (refused_made c.requires _ _ c.told-floats (lent c.requires _) c.window.auto.tangents refl (rw c.steps_of_next-steps.ensures at c.in_err-window.ensures))
 
 pub returns-then-settings-config : goal.returns-then-settings-config
 returns-then-settings-config c =
-    warm_up_made c.requires _ _ c.told-floats (lent c.requires _) c.window.auto.tangents refl c.in_ok-window.ensures (lt-ltb _ _ c.if-settings-config.true)
+    warm_up_made c.requires _ _ c.told-floats (lent c.requires _) c.window.auto.tangents refl (rw c.steps_of_next-steps.ensures at c.in_ok-window.ensures) (lt-ltb _ _ c.if-settings-config.true)
 
 pub overflow_mul-b : goal.overflow_mul-b
 overflow_mul-b c = omega (arith, place_small c.requires)
@@ -65,4 +67,4 @@ record_window-requires c =
 
 pub returns : goal.returns
 returns c =
-    measured_made c.requires _ _ c.told-floats (lent c.requires _) c.window.auto.tangents refl c.in_ok-window.ensures (le-ltb _ _ c.if-settings-config.false) c.record_window.ensures c.record_window.auto.row
+    measured_made c.requires _ _ c.told-floats (lent c.requires _) c.window.auto.tangents refl (rw c.steps_of_next-steps.ensures at c.in_ok-window.ensures) (le-ltb _ _ c.if-settings-config.false) c.record_window.ensures c.record_window.auto.row

@@ -16,5 +16,5 @@ returns c =
     let a = c.args in
     record {
       runs = c.save_beside.ensures;
-      queue_is = ap (λ (q : List ℕ). set q (7 * a.slot + 6) c.warmed_after.result) c.requeue.ensures ∙ ap (set (rotated a.queue.now) (7 * a.slot + 6)) c.warmed_after.ensures;
+      queue_is = ap (λ (q : List ℕ). set q (8 * a.slot + 7) c.warmed_after.result) c.requeue.ensures ∙ ap (set (rotated a.queue.now) (8 * a.slot + 7)) c.warmed_after.ensures;
     }

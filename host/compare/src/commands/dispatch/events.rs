@@ -184,15 +184,15 @@ pub fn expected() -> Vec<Label> {
     for name in 0..NOBODY {
         add(0, &[&format!("{TAKEN}{name}")]);
     }
-    for number in [1, 2, 3, 4, 6, 7, 8, 25, 10, 11, 12, 14, 15] {
+    for number in [1, 2, 3, 4, 29, 6, 7, 8, 25, 10, 11, 12, 14, 15] {
         add(number, &[ON_HAND_IN]);
     }
     add(28, &[ON_HAND_IN, FAILING]);
     add(0, &[NOBODYS, WARM_UP, MEASURED]);
     add(9, &[ON_A_TURN, OUTPUTS_TOO, IN_BETWEEN]);
     add(13, &[IN_BETWEEN]);
-    for (number, label) in [(5, ON_HAND_IN), (13, ON_A_TURN)] {
-        for place in 0..3 {
+    for (number, label, places) in [(5, ON_HAND_IN, 0..4), (13, ON_A_TURN, 0..3)] {
+        for place in places {
             add(number, &[&format!("{label}, place {place}")]);
         }
     }
@@ -223,7 +223,8 @@ mod tests {
     fn the_fixed_list_meets_the_rest() {
         let (mut events, mut reference) = (Events::default(), Reference::default());
         let mut met = BTreeSet::new();
-        for (call, _) in turns::calls() {
+        let calls = turns::calls().into_iter();
+        for (call, _) in calls.chain(turns::calls_with_warm_up_steps()) {
             let (answer, alone) = reference.answers(&call);
             met.extend(events.of(&call, &answer, alone.as_ref()));
         }

@@ -66,11 +66,9 @@ fn after_a_keep(bytes: &mut Bytes, call: &Call) -> Result<u64, String> {
 /// The same run with few windows, unless it would be long then.
 fn earlier(bytes: &mut Bytes, run: &Run) -> Box<Run> {
     let mut run = run.clone();
-    let (steps, warm_up) = (
-        run.settings.steps_per_window,
-        run.settings.transient_windows,
-    );
-    if steps.max(warm_up) < MAX_COUNT {
+    let settings = &run.settings;
+    let steps = settings.steps_per_window.max(settings.transient_steps());
+    if steps.max(settings.transient_windows) < MAX_COUNT {
         run.settings.windows = 1 + bytes.below(4) as u64;
         run.rows = bytes.length(run.settings.rows_length());
     }
@@ -89,7 +87,7 @@ fn in_any_memory(memory: &mut Memory, call: &Call) -> Result<u64, String> {
         }
         (Call::Keep(_, run), _) => run.model(),
         (Call::Forget(_), 0 | 26) => Answer::refusal(Refusal::of(number)),
-        (Call::GoOn(..), 0..=18 | 25) => return Ok(number),
+        (Call::GoOn(..), 0..=18 | 25 | 29) => return Ok(number),
         _ => return Err(format!("refused by {number}")),
     };
     difference(Ok(library), &model, None).map_or(Ok(number), Err)

@@ -1,7 +1,7 @@
--- lyapunov::lyapunov_validate
+-- lyapunov::with_options::lyapunov_validate_with_options
 use borrow.Author.Rules.{rules}
 use Rattle.benettin.specs.Estimate.{problem}
-use Rattle.lyapunov.proofs.lyapunov_validate.Goals as goal
+use Rattle.lyapunov.proofs.with_options.lyapunov_validate_with_options.Goals as goal
 
 pub returns : goal.returns
 unfolding problem
